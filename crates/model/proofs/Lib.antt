@@ -1,12 +1,13 @@
+pub mod Bytes
 pub mod Reach
 pub mod Newest
 pub mod Carried
 pub mod Levels
 pub mod Lists
 pub mod Reference
-pub mod Cases
 pub mod Contained
 pub mod Inserted
 pub mod Mimic
 pub mod Flags
+pub mod Cases
 pub mod Demands

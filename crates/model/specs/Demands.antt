@@ -6,8 +6,14 @@ use mathlib.Core.Option.{Option, some, none}
 use Prim.Native.Nat.{ℕ, suc, _+_, _≤_, _<_}
 use lib.ListN.{length}
 use Rattle.model.specs.Table.{Table, Valid, Bounded, width, entry}
-use Rattle.model.specs.Model.{Device, box, Event, input, inputs-of, newest, Place, placed, Config, cfg, config, Set, Move, seen, Step, start, Within, Reached, Plausible, Fed, Empty, FlagIs}
+use Rattle.model.specs.Model.{Device, box, Event, input, output, event, inputs-of, newest, Place, placed, Config, cfg, config, Set, Move, seen, Step, start, Within, Reached, Plausible, Fed, Empty, FlagIs}
 use Rattle.model.specs.Levels.{held-after, Moved, Swept}
+
+-- EVENT BYTES
+
+-- Input a is byte a. Output a is 128 + a.
+abbrev pub EventBytes : Type 0
+EventBytes = (a : ℕ) → (a < 128 → event a ≡ input a) × (event (128 + a) ≡ output a)
 
 -- THE PLAUSIBLE SET
 
