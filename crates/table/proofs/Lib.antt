@@ -1,0 +1,8 @@
+pub mod Checks
+pub mod First
+pub mod Laws
+mod Bytes
+mod Symbols
+mod Reading
+mod Rows
+mod Passing
