@@ -15,6 +15,7 @@ use Rattle.model.proofs.Flags.{lt-or-ge}
 use Rattle.model.proofs.Newest.{length-newest}
 use Rattle.model.proofs.Bytes.{input-byte, output-byte}
 use Rattle.table.specs.Bytes.{table-of, symbol-of}
+use Rattle.table.specs.declared.answer.Symbol.{Symbol}
 use Rattle.table.specs.declared.answer.Symbol.the-variants.{Input, Output, Invalid}
 use Rattle.table.proofs.Laws.{given-means}
 use Rattle.monitor.specs.declared.session.Session.{Session}
@@ -34,7 +35,7 @@ module _ (s : Session) (sound : Sound s) (rows-long : length (s .rows) ≡ 2048)
   kept≤ : kept s ≤ s .waiting
   kept≤ = omega arith
 
-  length-line : length (line s) ≡ kept s
+  pub length-line : length (line s) ≡ kept s
   length-line = simp length-take (omega (arith, B≤))
 
   shows-line : Shows (line s) (s .held)
@@ -55,11 +56,11 @@ module _ (s : Session) (sound : Sound s) (rows-long : length (s .rows) ≡ 2048)
       fits : (w r q : ℕ) → w ≤ 32 → r < 8 → InCell (s .set) w r q → Fits (s .states) (s .waiting) (s .losses) (s .arrived) (cfg q w r)
       fits w r q i j k = sound .set (cfg q w r) (record { waiting = i; run = j; member = k })
 
-  fit : (x : Config ℕ) → Holds (s .set) x → x .waiting ≤ length (line s)
+  pub fit : (x : Config ℕ) → Holds (s .set) x → x .waiting ≤ length (line s)
   fit x i = let f = sound .set x i in omega (arith, f .waiting, f .arrived, length-line)
 
   -- the line's inputs are the table's
-  line-valid : (k : ℕ) → k < length (line s) → getD (line s) k 0 < s .inputs
+  pub line-valid : (k : ℕ) → k < length (line s) → getD (line s) k 0 < s .inputs
   line-valid k i =
       let j : k < kept s = omega (arith, length-line) in
       rw (getD-take (kept s) (s .held) k 0 j) (sound .held .valid k j (omega (arith, B≤)))
@@ -80,7 +81,7 @@ module _ (s : Session) (sound : Sound s) (rows-long : length (s .rows) ≡ 2048)
     unfolding h′
     length-h′ = simp length-drop (omega (arith, length-more))
 
-    valid-more : (k : ℕ) → k < length (line s ++ (a ∷ [])) → getD (line s ++ (a ∷ [])) k 0 < s .inputs
+    pub valid-more : (k : ℕ) → k < length (line s ++ (a ∷ [])) → getD (line s ++ (a ∷ [])) k 0 < s .inputs
     valid-more k i =
         ⊎-elim (λ j. rw (List·getD-append (line s) (a ∷ []) 0 k j) (line-valid k j))
         (λ j. let e : k ≡ length (line s) = omega (arith, length-more, length-line) in rw (e, getD-append-seam) symbol) (lt-or-ge k (length (line s)))
@@ -161,3 +162,12 @@ input-means b i o a e = let m = given-means b i o a .0 e in (m .0, m .1, λ f. l
 
 pub output-means : (b i o a : ℕ) → symbol-of b i o ≡ Output a → (128 + a ≡ b) × (a < o) × (symbol-of b i o ≡ Invalid → ⊥)
 output-means b i o a e = let m = given-means b i o a .1 e in (m .0, m .1, λ f. let z : _≡_ {A = ℕ} 0 1 = cc in omega arith)
+
+-- a valid byte is an input or an output of the table
+pub event-cases : (b i o : ℕ) → (symbol-of b i o ≡ Invalid → ⊥) → ((a : ℕ) × (event b ≡ input a) × (a < i)) ⊎ ((a : ℕ) × (event b ≡ output a) × (a < o))
+event-cases b i o v = go (symbol-of b i o) refl
+  where
+    go : (x : Symbol) → symbol-of b i o ≡ x → ((a : ℕ) × (event b ≡ input a) × (a < i)) ⊎ ((a : ℕ) × (event b ≡ output a) × (a < o))
+    go (Input a) e = let m = given-means b i o a .0 e in inl (a, m .2, m .1)
+    go (Output a) e = let m = given-means b i o a .1 e in inr (a, m .2, m .1)
+    go Invalid e = absurd (v e)

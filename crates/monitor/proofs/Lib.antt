@@ -1,9 +1,12 @@
-pub mod Bridge
-pub mod Moves
+pub mod Laws
+mod Bridge
+mod Moves
 mod Words
 mod Steps
 mod Padded
 mod Clauses
 mod Lines
 mod Feeding
-pub mod Openings
+mod Openings
+mod Opened
+mod Sessions

@@ -1,0 +1,32 @@
+-- Every statement of specs/Laws.antt, proved, under one roof: other crates take the laws from here. Assumes nothing.
+use Rattle.monitor.specs.Laws.{OpeningPasses, OpenedSound, ZerosUnsound, OneFeed, NotRefused, FedSound, PlausibleAfterFeeding, SessionsAllowMore}
+use Rattle.monitor.proofs.Openings
+use Rattle.monitor.proofs.Opened
+use Rattle.monitor.proofs.Sessions
+
+-- Opening.
+pub opening-passes : OpeningPasses
+opening-passes = Openings.opening-passes
+
+pub opened-sound : OpenedSound
+opened-sound = Opened.opened-sound
+
+pub zeros-unsound : ZerosUnsound
+zeros-unsound = Opened.zeros-unsound
+
+-- Feeding.
+pub one-feed : OneFeed
+one-feed = Sessions.one-feed
+
+pub not-refused : NotRefused
+not-refused = Sessions.not-refused
+
+pub fed-sound : FedSound
+fed-sound = Sessions.fed-sound
+
+-- Demands 2 and 3.
+pub plausible-after-feeding : PlausibleAfterFeeding
+plausible-after-feeding = Sessions.plausible-after-feeding
+
+pub sessions-allow-more : SessionsAllowMore
+sessions-allow-more = Sessions.sessions-allow-more
