@@ -25,7 +25,7 @@ use Rattle.monitor.specs.Feed.{Shows, Held, FlagAfter, MovedOn, FedTo}
 use Rattle.monitor.proofs.Moves.{shifted-contained, shifted-arrived, sent-contained, sent-sent, fed-words}
 use Rattle.monitor.proofs.Lines.{shows-first, shown-take}
 
-module _ (s : Session) (sound : Sound s) (rows-long : length (s .rows) ≡ 2048) (held-long : length (s .held) ≡ 32) where
+module _ (s : Session) (sound : Sound s) (held-long : length (s .held) ≡ 32) where
   T : Table
   T = table-in s
 

@@ -10,3 +10,4 @@ mod Feeding
 mod Openings
 mod Opened
 mod Sessions
+mod Sums

@@ -42,10 +42,6 @@ module _ (l : List ℕ) (fits : length l ≤ 2048) where
       let e : take 2048 l ≡ l = take-all 2048 l fits in
       rw e (take-at l (drop (length l) (zeros 2048)) (length l) refl)
 
-  pub length-padded : length (padded 2048 l) ≡ 2048
-  unfolding padded
-  length-padded = simp (length-append, length-take, length-drop, length-zeros) (omega arith)
-
   padded-rest : (k : ℕ) → length l ≤ k → getD (padded 2048 l) k 0 ≡ 0
   unfolding padded
   padded-rest k i =
@@ -108,7 +104,7 @@ module _ (rows : List ℕ) (s i o B c : ℕ) (passes : opening rows s i o B c �
 
   pub begun-proper : Proper (begun rows s i o B c)
   unfolding begun
-  begun-proper = record { rows = length-padded rows fits; set = length-set (zeros 264) 0 1 ∙ length-zeros 264; held = length-zeros 32 }
+  begun-proper = record { set = length-set (zeros 264) 0 1 ∙ length-zeros 264; held = length-zeros 32 }
 
   pub begun-table : table-in (begun rows s i o B c) ≡ table-of rows s i o
   unfolding begun

@@ -144,7 +144,7 @@ module _ (s t : Session) (b : ℕ) (proper : Proper s) (w : Went s b t) where
   h′ = newest (s .waiting) (held-after (line s) (event b))
 
   length-h : length (held-after (line s) (event b)) ≡ kept s + length (inputs-of (event b ∷ []))
-  length-h = simp length-append (omega (arith, length-line s sound (proper .rows) (proper .held)))
+  length-h = simp length-append (omega (arith, length-line s sound (proper .held)))
 
   length-h′ : length (newest (s .waiting) (held-after (line s) (event b))) ≡ min (t .waiting) (t .arrived)
   unfolding h′
@@ -152,8 +152,8 @@ module _ (s t : Session) (b : ℕ) (proper : Proper s) (w : Went s b t) where
 
   fits : (x : Config ℕ) → Holds (t .set) x → Fits (s .states) (s .waiting) (s .losses) (length (held-after (line s) (event b))) x
   fits x i =
-      fed-contained (table-in s) (s .waiting) (s .losses) (line s) (Holds (s .set)) (event b) x (sound .table .valid) (line-valid s sound (proper .rows) (proper .held))
-      (λ y j. sound .set y j .state) (fit s sound (proper .rows) (proper .held)) (f .set x .0 i)
+      fed-contained (table-in s) (s .waiting) (s .losses) (line s) (Holds (s .set)) (event b) x (sound .table .valid) (line-valid s sound (proper .held))
+      (λ y j. sound .set y j .state) (fit s sound (proper .held)) (f .set x .0 i)
 
   -- the line's inputs are still the table's
   valid-h : (k : ℕ) → k < length (held-after (line s) (event b)) → getD (held-after (line s) (event b)) k 0 < s .inputs
@@ -162,8 +162,8 @@ module _ (s t : Session) (b : ℕ) (proper : Proper s) (w : Went s b t) where
     where
       go : ((a : ℕ) × (event b ≡ input a) × (a < s .inputs)) ⊎ ((a : ℕ) × (event b ≡ output a) × (a < s .outputs)) → (k : ℕ)
           → k < length (held-after (line s) (event b)) → getD (held-after (line s) (event b)) k 0 < s .inputs
-      go (inl (a, q, l)) = rw q (valid-more s sound (proper .rows) (proper .held) a l)
-      go (inr (a, q, l)) = rw (q, append-nil) (line-valid s sound (proper .rows) (proper .held))
+      go (inl (a, q, l)) = rw q (valid-more s sound (proper .held) a l)
+      go (inr (a, q, l)) = rw (q, append-nil) (line-valid s sound (proper .held))
 
   valid-h′ : (k : ℕ) → k < length h′ → getD h′ k 0 < s .inputs
   unfolding h′
@@ -200,7 +200,7 @@ module _ (s t : Session) (b : ℕ) (proper : Proper s) (w : Went s b t) where
 
   pub went-proper : Proper t
   unfolding f
-  went-proper = record { rows = ap length (f .rows) ∙ proper .rows; set = f .words; held = f .held .size }
+  went-proper = record { set = f .words; held = f .held .size }
 
 -- A fed session is sound again.
 pub fed-sound : FedSound

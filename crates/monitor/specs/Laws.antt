@@ -20,9 +20,8 @@ use Rattle.monitor.specs.Session.{table-in, line, Sound}
 use Rattle.monitor.specs.Open.{opening, begun, zero-session}
 use Rattle.monitor.specs.Feed.{passed, ValidEvent, FedTo, Feeds}
 
--- The lengths that a session's arrays have in memory.
+-- The lengths that a session's set and held inputs have in memory.
 pub record Proper (s : Session) : Type 0 where
-  pub rows : length (s .rows) ≡ 2048
   pub set : length (s .set) ≡ 264
   pub held : length (s .held) ≡ 32
 

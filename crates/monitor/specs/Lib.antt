@@ -3,3 +3,5 @@ pub mod Session
 pub mod Open
 pub mod Feed
 pub mod Laws
+pub mod Run
+pub mod Summary

@@ -66,9 +66,8 @@ moved-on-requires c κs = search needs
 returns : tie.Need-returns
 returns c =
     let s = c .before .before .before .before .before .before .before .before .before .before .before .before .before .before .before .args .t1 in
-    let rows-long : length (s .rows) ≡ 2048 = search needs in
     let held-long : length (s .held) ≡ 32 = sym (c .before .before .before .before .before .before .before .before .before .before .before .hold .ensures .size) ∙ c .before .sweep .ensures .1 .1 in
-    arrived-to s (c .before .before .before .before .before .before .before .before .before .before .before .before .before .before .before .pre .0) rows-long held-long _ (c .before .before .before .before .before .before .before .before .before .before .before .before .before .before .before .pre .2) _ _ _ _ _ _ (c .before .sweep .ensures .1 .0) (c .before .before .before .before .before .before .before .before .before .before .before .before .before .before .held-count .ensures) (c .before .before .before .before .before .before .before .before .before .before .grown .ensures) (c .before .before .before .before .before .before .before .before .before .before .before .hold .ensures)
+    arrived-to s (c .before .before .before .before .before .before .before .before .before .before .before .before .before .before .before .pre .0) held-long _ (c .before .before .before .before .before .before .before .before .before .before .before .before .before .before .before .pre .2) _ _ _ _ _ _ (c .before .sweep .ensures .1 .0) (c .before .before .before .before .before .before .before .before .before .before .before .before .before .before .held-count .ensures) (c .before .before .before .before .before .before .before .before .before .before .grown .ensures) (c .before .before .before .before .before .before .before .before .before .before .before .hold .ensures)
     (c .before .before .before .before .before .before .before .shift .ensures .0) (c .before .sweep .ensures .0) (c .moved-on .ensures)
 
 pub arrive-spec : {M : Type 1} → statement M

@@ -52,9 +52,8 @@ moved-on-requires c κs = search needs
 returns : tie.Need-returns
 returns c =
     let s = c .before .before .before .before .before .before .before .before .before .before .before .before .before .before .before .args .t1 in
-    let rows-long : length (s .rows) ≡ 2048 = search needs in
     let held-long : length (s .held) ≡ 32 = c .before .sweep .ensures .1 .1 in
-    sent-to s (c .before .before .before .before .before .before .before .before .before .before .before .before .before .before .before .pre .0) rows-long held-long _ _ _ _ _ (c .before .before .before .before .before .before .before .before .before .before .before .before .before .before .before .pre .2) (c .before .sweep .ensures .1 .0) (c .before .before .before .before .before .before .before .before .before .before .before .before .before .before .held-count .ensures) (c .before .before .before .before .before .before .before .send .ensures .0) (c .before .sweep .ensures .0) (c .moved-on .ensures)
+    sent-to s (c .before .before .before .before .before .before .before .before .before .before .before .before .before .before .before .pre .0) held-long _ _ _ _ _ (c .before .before .before .before .before .before .before .before .before .before .before .before .before .before .before .pre .2) (c .before .sweep .ensures .1 .0) (c .before .before .before .before .before .before .before .before .before .before .before .before .before .before .held-count .ensures) (c .before .before .before .before .before .before .before .send .ensures .0) (c .before .sweep .ensures .0) (c .moved-on .ensures)
 
 pub send-spec : {M : Type 1} → statement M
 send-spec =
