@@ -21,7 +21,9 @@ use Rattle.table.proofs.Laws.{given-means}
 use Rattle.monitor.specs.declared.session.Session.{Session}
 use Rattle.monitor.specs.Sets.{InCell, Holds, SweptFrom, Shifted, SentOn, Packed, Ready, Contained}
 use Rattle.monitor.specs.Session.{used, table-in, kept, line, Sound}
+use Rattle.monitor.specs.Event.{Arrival, Departure}
 use Rattle.monitor.specs.Feed.{Shows, Held, FlagAfter, MovedOn, FedTo}
+use Rattle.monitor.proofs.Bridge.{contained-after}
 use Rattle.monitor.proofs.Moves.{shifted-contained, shifted-arrived, sent-contained, sent-sent, fed-words}
 use Rattle.monitor.proofs.Lines.{shows-first, shown-take}
 
@@ -92,13 +94,29 @@ module _ (s : Session) (sound : Sound s) (held-long : length (s .held) ≡ 32) w
         let d = length (line s ++ (a ∷ [])) - s .waiting in
         rw (getD-drop d (line s ++ (a ∷ [])) k 0) (valid-more (d + k) (omega (arith, length-drop d (line s ++ (a ∷ [])))))
 
-    pub arrived-to : (n top : ℕ) (held mid after : List ℕ) (r : Session) → length after ≡ 264 → n ≡ kept s → top ≡ min (n + 1) (s .waiting) → Held n (s .waiting) a (s .held) held → Shifted top (s .set) mid
-        → SweptFrom (s .rows) (s .inputs + s .outputs) (s .losses) (take top held) 0 top mid after → MovedOn s after held (s .arrived + 1) r → FedTo s a r
+    pub arrived-contained : (n top : ℕ) (after held : List ℕ) → n ≡ kept s → Arrival (s .rows) (s .inputs + s .outputs) (s .waiting) (s .losses) n a top (s .set) (s .held) after held
+        → Contained (table-in s) (s .losses) top after
     unfolding h′
-    arrived-to n top held mid after r long en et hd sh sw mo =
+    arrived-contained n top after held en arr =
+        let et = arr .count in
+        let shown : Shows h′ held = arr .held-on .line (line s) (length-line ∙ sym en) shows-line in
+        let len : top ≡ length h′ = omega (arith, length-h′) in
+        let is-line : take top held ≡ h′ = rw len (shown-take h′ held (omega (arith, B≤)) shown) in
+        let le : top ≤ s .waiting = omega arith in
+        let all : (w : ℕ) → w ≤ kept s → w < s .waiting → w < top = λ w i j. omega arith in
+        contained-after (table-in s) (s .rows) (s .waiting) (s .losses) h′ top (ready h′ top len le valid-h′) (arr .raised) after
+        (shifted-contained (table-in s) (s .waiting) (s .losses) a (kept s) top symbol (sound .bounds) kept≤ le all (s .set) (arr .raised) contained (arr .shifted)) (rw is-line at (arr .swept))
+
+    pub arrived-to : (n top : ℕ) (after held : List ℕ) (r : Session) → n ≡ kept s → Arrival (s .rows) (s .inputs + s .outputs) (s .waiting) (s .losses) n a top (s .set) (s .held) after held
+        → MovedOn s after held (s .arrived + 1) r → FedTo s a r
+    unfolding h′
+    arrived-to n top after held r en arr mo =
+        let et = arr .count in
+        let mid = arr .raised in
+        let sh = arr .shifted in
         let few = sound .table .valid .inputs .1 in
         let b : event a ≡ input a = input-byte a (omega arith) in
-        let shown : Shows h′ held = hd .line (line s) (length-line ∙ sym en) shows-line in
+        let shown : Shows h′ held = arr .held-on .line (line s) (length-line ∙ sym en) shows-line in
         let len : top ≡ length h′ = omega (arith, length-h′) in
         let is-line : take top held ≡ h′ = rw len (shown-take h′ held (omega (arith, B≤)) shown) in
         let le : top ≤ s .waiting = omega arith in
@@ -107,7 +125,7 @@ module _ (s : Session) (sound : Sound s) (held-long : length (s .held) ≡ 32) w
         (ready h′ top len le valid-h′)
         (shifted-contained (table-in s) (s .waiting) (s .losses) a (kept s) top symbol (sound .bounds) kept≤ le all (s .set) mid contained sh)
         (shifted-arrived (table-in s) (s .waiting) (s .losses) a (kept s) top symbol (sound .bounds) kept≤ le all (s .set) mid contained sh)
-        (rw is-line at sw) in
+        (rw is-line at (arr .swept)) in
         record {
           states = mo .states;
           inputs = mo .inputs;
@@ -115,7 +133,7 @@ module _ (s : Session) (sound : Sound s) (held-long : length (s .held) ≡ 32) w
           rows = mo .rows;
           waiting = mo .waiting;
           losses = mo .losses;
-          words = ap length (mo .words) ∙ long;
+          words = ap length (mo .words) ∙ arr .words;
           set = λ x. rw (b, mo .words) (to x);
           held = rw (b, mo .bytes) shown;
           events = mo .events;
@@ -129,12 +147,21 @@ module _ (s : Session) (sound : Sound s) (held-long : length (s .held) ≡ 32) w
   line-kept : newest (s .waiting) (line s ++ []) ≡ line s
   line-kept = let z : length (line s) - s .waiting ≡ 0 = omega (arith, length-line) in rw (append-nil, z)
 
-  pub sent-to : (a n : ℕ) (mid after : List ℕ) (r : Session) → a < s .outputs → length after ≡ 264 → n ≡ kept s → SentOn (s .rows) (s .inputs + s .outputs) (s .inputs + a) n (s .set) mid
-      → SweptFrom (s .rows) (s .inputs + s .outputs) (s .losses) (take n (s .held)) 0 n mid after → MovedOn s after (s .held) (s .arrived) r → FedTo s (128 + a) r
-  sent-to a n mid after r symbol long en sent₀ sw₀ mo =
+  pub departed-contained : (a n : ℕ) (after : List ℕ) → a < s .outputs → n ≡ kept s → Departure (s .rows) (s .inputs + s .outputs) (s .inputs + a) (s .losses) n (s .set) (s .held) after
+      → Contained (table-in s) (s .losses) n after
+  departed-contained a n after symbol en dep =
+      let sent = rw en at (dep .sent) in
+      let sw = rw en at (dep .swept) in
+      rw en (contained-after (table-in s) (s .rows) (s .waiting) (s .losses) (line s) (kept s) (ready (line s) (kept s) (sym length-line) kept≤ line-valid) (dep .followed) after
+      (sent-contained (table-in s) (s .rows) (s .waiting) (s .losses) a (kept s) (sound .table .valid) packed (sound .bounds) symbol kept≤ (s .set) (dep .followed) contained sent) sw)
+
+  pub sent-to : (a n : ℕ) (after : List ℕ) (r : Session) → a < s .outputs → n ≡ kept s → Departure (s .rows) (s .inputs + s .outputs) (s .inputs + a) (s .losses) n (s .set) (s .held) after
+      → MovedOn s after (s .held) (s .arrived) r → FedTo s (128 + a) r
+  sent-to a n after r symbol en dep mo =
+      let mid = dep .followed in
       let b = output-byte a in
-      let sent = rw en at sent₀ in
-      let sw = rw en at sw₀ in
+      let sent = rw en at (dep .sent) in
+      let sw = rw en at (dep .swept) in
       let to = fed-words (table-in s) (s .rows) (s .waiting) (s .losses) (line s) (output a) (kept s) (s .set) mid after fit
       (rw line-kept (ready (line s) (kept s) (sym length-line) kept≤ line-valid))
       (sent-contained (table-in s) (s .rows) (s .waiting) (s .losses) a (kept s) (sound .table .valid) packed (sound .bounds) symbol kept≤ (s .set) mid contained sent)
@@ -147,7 +174,7 @@ module _ (s : Session) (sound : Sound s) (held-long : length (s .held) ≡ 32) w
         rows = mo .rows;
         waiting = mo .waiting;
         losses = mo .losses;
-        words = ap length (mo .words) ∙ long;
+        words = ap length (mo .words) ∙ dep .words;
         set = λ x. rw (b, mo .words) (to x);
         held = rw (b, line-kept, mo .bytes) shows-line;
         events = mo .events;

@@ -11,3 +11,4 @@ mod Openings
 mod Opened
 mod Sessions
 mod Sums
+mod Running

@@ -18,9 +18,11 @@ use Rattle.states.specs.In.{In}
 use Rattle.states.proofs.Member.{not-in-zero, in-pow}
 use Rattle.monitor.specs.declared.session.Session.{Session}
 use Rattle.monitor.specs.Sets.{Holds}
-use Rattle.monitor.specs.Session.{used, table-in, kept, line, Sound}
+use Rattle.monitor.specs.declared.session.Flag.the-variants as flag
+use Rattle.monitor.specs.Session.{used, table-in, kept, line, ZeroFrom, Sound}
 use Rattle.monitor.specs.Open.{zeros, padded, opening, begun, zero-session}
 use Rattle.monitor.specs.Laws.{Proper, OpenedSound, ZerosUnsound}
+use Rattle.monitor.specs.Run.{session-of}
 use Rattle.monitor.proofs.Padded.{length-zeros}
 use Rattle.monitor.proofs.Openings.{opening-passes}
 
@@ -51,7 +53,7 @@ module _ (l : List ℕ) (fits : length l ≤ 2048) where
 
 -- THE SET
 
-abbrev first-set : List ℕ
+abbrev pub first-set : List ℕ
 first-set = set (zeros 264) 0 1
 
 word-first : getD first-set 0 0 ≡ 1
@@ -88,33 +90,13 @@ first-holds x = (to, from)
     from : x ≡ cfg 0 0 0 → Holds first-set x
     from e = rw e zero-held
 
--- An opened session is sound and has the one configuration (0,0,0).
-module _ (rows : List ℕ) (s i o B c : ℕ) (passes : opening rows s i o B c ≡ Passed) where
-  valid : Valid (table-of rows s i o)
-  valid = opening-passes rows s i o B c .0 passes .0
-
-  bounded : Bounded B c
-  bounded = opening-passes rows s i o B c .0 passes .1
-
-  fits : length rows ≤ 2048
-  fits = omega (arith, valid .rows, mul-le-mul {n₂ = 64} {m₂ = 32} (valid .states .1) (let w : i + o ≤ 32 = omega (arith, valid .inputs .1, valid .outputs .1) in w))
-
-  pub begun-rows : take (s * (i + o)) (padded 2048 rows) ≡ rows
-  begun-rows = rw (← (valid .rows)) (take-padded rows fits)
-
-  pub begun-proper : Proper (begun rows s i o B c)
-  unfolding begun
-  begun-proper = record { set = length-set (zeros 264) 0 1 ∙ length-zeros 264; held = length-zeros 32 }
-
-  pub begun-table : table-in (begun rows s i o B c) ≡ table-of rows s i o
-  unfolding begun
-  begun-table = ap (λ (l : List ℕ). table-of l s i o) begun-rows
-
-  pub begun-sound : Sound (begun rows s i o B c)
-  unfolding begun
-  begun-sound =
+-- A session at its beginning is sound, wherever its rows stand: with zeros after them, or alone.
+module _ (rows rows′ : List ℕ) (s i o B c : ℕ) (passes : opening rows s i o B c ≡ Passed) (packed : take (s * (i + o)) rows′ ≡ rows) (rest : ZeroFrom (s * (i + o)) rows′) where
+  pub first-sound : Sound (session-of rows′ s i o B c first-set (zeros 32) 0 0 flag.None)
+  first-sound =
+      let (valid, bounded) = opening-passes rows s i o B c .0 passes in
       record {
-        table = record { valid = rw begun-rows valid; rest = λ k l m. padded-rest rows fits k (omega (arith, valid .rows)) };
+        table = record { valid = rw packed valid; rest = rest };
         bounds = bounded;
         set = λ x h. rw (first-holds x .0 h) (record { state = valid .states .0; waiting = omega arith; run = bounded .losses .0; arrived = omega arith });
         held = record { valid = λ k l m. absurd (omega arith); rest = λ k l m. zero-at 32 k };
@@ -123,6 +105,31 @@ module _ (rows : List ℕ) (s i o B c : ℕ) (passes : opening rows s i o B c �
         flag = (cfg 0 0 0, first-holds (cfg 0 0 0) .1 refl);
       }
 
+-- its words
+pub first-proper : (rows′ : List ℕ) (s i o B c : ℕ) → Proper (session-of rows′ s i o B c first-set (zeros 32) 0 0 flag.None)
+first-proper rows′ s i o B c = record { set = length-set (zeros 264) 0 1 ∙ length-zeros 264; held = length-zeros 32 }
+
+-- rows that pass, alone and with zeros after them
+module _ (rows : List ℕ) (s i o B c : ℕ) (passes : opening rows s i o B c ≡ Passed) where
+  valid : Valid (table-of rows s i o)
+  valid = opening-passes rows s i o B c .0 passes .0
+
+  pub lent-rows : take (s * (i + o)) rows ≡ rows
+  lent-rows = rw (← (valid .rows)) (take-length rows)
+
+  pub lent-rest : ZeroFrom (s * (i + o)) rows
+  lent-rest k l m = absurd (omega (arith, valid .rows))
+
+  fits : length rows ≤ 2048
+  fits = omega (arith, valid .rows, mul-le-mul {n₂ = 64} {m₂ = 32} (valid .states .1) (let w : i + o ≤ 32 = omega (arith, valid .inputs .1, valid .outputs .1) in w))
+
+  pub begun-rows : take (s * (i + o)) (padded 2048 rows) ≡ rows
+  begun-rows = rw (← (valid .rows)) (take-padded rows fits)
+
+  pub begun-rest : ZeroFrom (s * (i + o)) (padded 2048 rows)
+  begun-rest k l m = padded-rest rows fits k (omega (arith, valid .rows))
+
+-- An opened session is sound and has the one configuration (0,0,0).
 pub opened-sound : OpenedSound
 unfolding begun
-opened-sound rows s i o B c e = (begun-sound rows s i o B c e, first-holds)
+opened-sound rows s i o B c e = (first-sound rows (padded 2048 rows) s i o B c e (begun-rows rows s i o B c e) (begun-rest rows s i o B c e), first-holds)

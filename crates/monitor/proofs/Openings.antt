@@ -14,7 +14,7 @@ use Rattle.table.specs.declared.answer.Test.the-variants.{Passed, Refused}
 use Rattle.table.proofs.Laws.{counts-pass, table-passes, bounds-pass}
 use Rattle.monitor.specs.Open.{then, counted, opening}
 
-both-passed : (a b : Test) → then a b ≡ Passed → (a ≡ Passed) × (b ≡ Passed)
+pub both-passed : (a b : Test) → then a b ≡ Passed → (a ≡ Passed) × (b ≡ Passed)
 both-passed Passed b e = (refl, e)
 both-passed (Refused r) b e = absurd (let z : _≡_ {A = ℕ} 0 1 = cc in omega arith)
 

@@ -27,13 +27,14 @@ use Rattle.monitor.specs.declared.session.Flag.{Flag}
 use Rattle.monitor.specs.declared.session.Flag.the-variants as flag
 use Rattle.monitor.specs.declared.feed.Fed as declared
 use Rattle.monitor.specs.Sets.{Holds}
-use Rattle.monitor.specs.Session.{used, table-in, kept, line, TableSound, HeldSound, FlagFits, Sound}
-use Rattle.monitor.specs.Open.{opening, begun}
+use Rattle.monitor.specs.Session.{used, table-in, kept, line, ZeroFrom, TableSound, HeldSound, FlagFits, Sound}
+use Rattle.monitor.specs.Open.{zeros, padded, opening, begun}
+use Rattle.monitor.specs.Run.{session-of}
 use Rattle.monitor.specs.Feed.{Shows, FlagAfter, stays, clear, falls, FedTo, passed, ValidEvent, Feeds, unsound, full, invalid, fed}
 use Rattle.monitor.specs.Laws.{Proper, OneFeed, NotRefused, FedSound, place-of, Follows, FedAll, none-left, then, PlausibleAfterFeeding, KeptBy, SessionsAllowMore}
 use Rattle.monitor.proofs.Lines.{shows-one, shown-take}
 use Rattle.monitor.proofs.Feeding.{length-line, line-valid, fit, valid-more, event-cases}
-use Rattle.monitor.proofs.Opened.{first-holds, begun-rows, begun-proper, begun-table, begun-sound}
+use Rattle.monitor.proofs.Opened.{first-set, first-holds, first-sound, first-proper, begun-rows, begun-rest}
 
 clash : _≡_ {A = ℕ} 0 1 → ⊥
 clash z = omega arith
@@ -209,15 +210,15 @@ fed-sound s t b p k = let w = went s b (passed t) t refl k in (went-sound s t b 
 -- THE PLAUSIBLE SET
 
 -- before any event
-begun-follows : (rows : List ℕ) (s i o B c : ℕ) → opening rows s i o B c ≡ Passed → Follows (table-of rows s i o) B c [] (begun rows s i o B c)
-unfolding begun
-begun-follows rows s i o B c e =
+pub first-follows : (rows rows′ : List ℕ) (s i o B c : ℕ) → opening rows s i o B c ≡ Passed → take (s * (i + o)) rows′ ≡ rows → ZeroFrom (s * (i + o)) rows′
+    → Follows (table-of rows s i o) B c [] (session-of rows′ s i o B c first-set (zeros 32) 0 0 flag.None)
+first-follows rows rows′ s i o B c e packed rest =
     let open′ = opens (box (table-of rows s i o)) B c in
     let z : min B 0 ≡ 0 = omega arith in
     record {
-      sound = begun-sound rows s i o B c e;
-      proper = begun-proper rows s i o B c e;
-      table = begun-table rows s i o B c e;
+      sound = first-sound rows rows′ s i o B c e packed rest;
+      proper = first-proper rows′ s i o B c;
+      table = ap (λ (l : List ℕ). table-of l s i o) packed;
       waiting = refl;
       losses = refl;
       carries = record {
@@ -272,7 +273,7 @@ module _ (T : Table) (B c : ℕ) (bytes : List ℕ) (s t : Session) (b : ℕ) (f
       let l : length (events bytes) ≡ s .events = events-length bytes ∙ sym (fo .seen) in
       rw (trace, ← l) (flag-falls (box T) B c (events bytes) (event b) h (λ x p. n x (carried .plausible x .1 (rw trace p))))
 
-  more-follows : Follows T B c (bytes ++ (b ∷ [])) t
+  pub more-follows : Follows T B c (bytes ++ (b ∷ [])) t
   unfolding fd
   more-follows =
       record {
@@ -293,7 +294,10 @@ all-follow T B c bytes (b ∷ rest) s t fo (then {t = u} fe all) = rw append-sno
 
 -- From an opened session that is the plausible set.
 pub plausible-after-feeding : PlausibleAfterFeeding
-plausible-after-feeding rows s i o B c bytes t e all = all-follow (table-of rows s i o) B c [] bytes (begun rows s i o B c) t (begun-follows rows s i o B c e) all
+unfolding begun
+plausible-after-feeding rows s i o B c bytes t e all =
+    all-follow (table-of rows s i o) B c [] bytes (begun rows s i o B c) t
+    (first-follows rows (padded 2048 rows) s i o B c e (begun-rows rows s i o B c e) (begun-rest rows s i o B c e)) all
 
 -- Demand 3 for sessions.
 pub sessions-allow-more : SessionsAllowMore

@@ -102,7 +102,7 @@ module _ (T : Table) (c top : ℕ) (set : List ℕ) (few : top ≤ 32) (containe
       let r = i .run in
       record { below = omega arith; member = i .member }
 
-  states-of : (q : ℕ) → In q (s .states) ↔ StateOf (Holds set) q
+  pub states-of : (q : ℕ) → In q (s .states) ↔ StateOf (Holds set) q
   states-of q = (
     (λ i. let (k, b) = sums .states q .0 i in (cfg q (k / 8) (k % 8), config-of k q b, refl)),
     (λ (x, i, e). sums .states q .1 (8 * x .waiting + x .run, rw e at (word-of x i))),

@@ -2,6 +2,7 @@ pub mod Sets
 pub mod Session
 pub mod Open
 pub mod Feed
+pub mod Event
 pub mod Laws
 pub mod Run
 pub mod Summary

@@ -4,11 +4,12 @@ use mathlib.Core.Bool.{Bool, true, false}
 use mathlib.Core.List.{List, [], _∷_, _++_}
 use mathlib.Core.Logic.{_↔_}
 use mathlib.Core.Option.{Option, some, none}
-use Prim.Native.Nat.{ℕ, suc, _+_, _*_, _/_, _%_, _≤_, _<_}
+use Prim.Native.Nat.{ℕ, suc, _+_, _*_, _/_, _%_, _≤_, _<_, min}
 use lib.Dec.{leb}
 use lib.ListN.{length, getD, take as first}
 use Rattle.model.specs.Limits.{most-events}
-use Rattle.model.specs.Model.{box, events, Config, Set, Plausible, FlagIs}
+use Rattle.model.specs.Table.{Table}
+use Rattle.model.specs.Model.{box, event, events, inputs-of, Config, Set, Plausible, FlagIs}
 use Rattle.table.specs.Bytes.{table-of, symbol-of}
 use Rattle.table.specs.First as search
 use Rattle.table.specs.Tests.{must}
@@ -19,10 +20,14 @@ use Rattle.table.specs.declared.answer.Symbol.the-variants.{Input, Output, Inva
 use Rattle.table.specs.declared.answer.Test.{Test}
 use Rattle.table.specs.declared.answer.Test.the-variants.{Passed, Refused}
 use Rattle.states.specs.In.{In}
+use Rattle.monitor.specs.declared.session.Session.{Session}
 use Rattle.monitor.specs.declared.session.Flag.{Flag}
 use Rattle.monitor.specs.declared.session.Flag.the-variants as flag
 use Rattle.monitor.specs.declared.run.Ran.{Ran}
 use Rattle.monitor.specs.Open.{then, opening}
+use Rattle.monitor.specs.Sets.{Holds, Contained}
+use Rattle.monitor.specs.Session.{table-in, Sound}
+use Rattle.monitor.specs.Feed.{FlagAfter, MovedOn, FedTo}
 use Rattle.monitor.specs.Laws.{place-of}
 
 -- THE TESTS
@@ -52,9 +57,11 @@ abbrev pub buffer-test : ℕ → ℕ → Test
 buffer-test n room = must (leb (12 * n) room) (refusal.Buffer (12 * n)) Passed
 
 -- Whole run: as opening, then 9, 7, 10.
+abbrev pub traced : List ℕ → ℕ → ℕ → ℕ → Test
+traced trace i o room = then (limit-test (length trace)) (then (events-test trace i o) (buffer-test (length trace) room))
+
 unfoldable pub run-test : List ℕ → ℕ → ℕ → ℕ → ℕ → ℕ → List ℕ → ℕ → Test
-run-test rows s i o B c trace room =
-    then (opening rows s i o B c) (then (limit-test (length trace)) (then (events-test trace i o) (buffer-test (length trace) room)))
+run-test rows s i o B c trace room = then (opening rows s i o B c) (traced trace i o room)
 
 -- THE TWELVE BYTES
 
@@ -99,9 +106,51 @@ pub record Line (S : Set ℕ) (bytes : List ℕ) : Type 0 where
 
 -- THE RUN
 
+-- The line stands from the place on, and the other bytes are as they were.
+pub record Put (place : ℕ) (line before after : List ℕ) : Type 0 where
+  pub size : length after ≡ length before
+  pub bytes : (i : ℕ) → i < 12 → getD after (place + i) 0 ≡ getD line i 0
+  pub below : (k : ℕ) → k < place → getD after k 0 ≡ getD before k 0
+  pub above : (k : ℕ) → place + 12 ≤ k → getD after k 0 ≡ getD before k 0
+
 -- The bytes from a place on are the line.
 abbrev pub At : ℕ → List ℕ → List ℕ → Type 0
 At place line bytes = (i : ℕ) → i < 12 → getD bytes (place + i) 0 ≡ getD line i 0
+
+-- A run is a session whose rows are lent: this one, between two events.
+abbrev pub session-of : List ℕ → ℕ → ℕ → ℕ → ℕ → ℕ → List ℕ → List ℕ → ℕ → ℕ → Flag → Session
+session-of rows s i o B c set held events arrived f =
+    record {
+      states = s;
+      inputs = i;
+      outputs = o;
+      rows = rows;
+      waiting = B;
+      losses = c;
+      set = set;
+      held = held;
+      events = events;
+      arrived = arrived;
+      flag = f;
+    }
+
+-- One event does to the set and the line what it does to such a session, and the line then has n′ inputs.
+pub record Stepped (rows : List ℕ) (i o B c n b : ℕ) (set held set′ held′ : List ℕ) (n′ : ℕ) : Type 0 where
+  pub words : length set′ ≡ 264
+  pub long : length held′ ≡ 32
+  pub count : n′ ≡ min (n + length (inputs-of (event b ∷ []))) B
+  pub contained : (st events arrived : ℕ) (f : Flag) → Sound (session-of rows st i o B c set held events arrived f) → n ≡ min B arrived
+      → Contained (table-in (session-of rows st i o B c set held events arrived f)) c n′ set′
+  pub fed : (st events arrived : ℕ) (f : Flag) → Sound (session-of rows st i o B c set held events arrived f) → n ≡ min B arrived → (r : Session)
+      → MovedOn (session-of rows st i o B c set held events arrived f) set′ held′ (arrived + length (inputs-of (event b ∷ []))) r
+      → FedTo (session-of rows st i o B c set held events arrived f) b r
+
+-- The line of the set is written for event k, and the flag falls if there is nothing.
+pub record Recorded (set : List ℕ) (n k : ℕ) (before after : List ℕ) (f g : Flag) : Type 0 where
+  pub line : List ℕ
+  pub put : Put (12 * k) line before after
+  pub of-set : (T : Table) (c : ℕ) → Contained T c n set → Line (Holds set) line
+  pub flag : (T : Table) (c : ℕ) → Contained T c n set → FlagAfter k set f g
 
 -- What a run that is not refused does: for each event k the 12 bytes of the plausible set after k + 1 events; bytes after 12 × events keep
 -- their values; and the flag's place or none.
@@ -110,6 +159,10 @@ pub record RunTo (rows : List ℕ) (s i o B c : ℕ) (trace before after : List 
   pub lines : (k : ℕ) → k < length trace → (line : List ℕ) × Line (Plausible (box (table-of rows s i o)) B c (events (first (suc k) trace))) line × At (12 * k) line after
   pub rest : (k : ℕ) → 12 * length trace ≤ k → getD after k 0 ≡ getD before k 0
   pub flag : FlagIs (box (table-of rows s i o)) B c (events trace) (place-of f)
+
+-- The same, of a trace and a buffer that pass their tests, for every count of states with which the table passes its own.
+abbrev pub Followed : List ℕ → ℕ → ℕ → ℕ → ℕ → List ℕ → List ℕ → List ℕ → Flag → Type 0
+Followed rows i o B c trace before after f = (s : ℕ) → opening rows s i o B c ≡ Passed → RunTo rows s i o B c trace before after f
 
 -- A refused run writes nothing, tells no flag, and its other results are 0.
 pub data Runs (rows : List ℕ) (s i o B c : ℕ) (trace before : List ℕ) : Ran → List ℕ → Type 0 where

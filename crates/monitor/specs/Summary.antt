@@ -36,10 +36,3 @@ pub record LineOf (s : Sum) (line : List ℕ) : Type 0 where
   pub least-run-is : Least (s .runs) least-run
   pub most-run-is : Most (s .runs) most-run
   pub bytes-are : line ≡ number (s .states) ++ (least-waiting ∷ most-waiting ∷ least-run ∷ most-run ∷ [])
-
--- The line stands from the place on, and the other bytes are as they were.
-pub record Put (place : ℕ) (line before after : List ℕ) : Type 0 where
-  pub size : length after ≡ length before
-  pub bytes : (i : ℕ) → i < 12 → getD after (place + i) 0 ≡ getD line i 0
-  pub below : (k : ℕ) → k < place → getD after k 0 ≡ getD before k 0
-  pub above : (k : ℕ) → place + 12 ≤ k → getD after k 0 ≡ getD before k 0

@@ -5,14 +5,14 @@ ghost use mathlib.Core.List.{List};
 ghost use lib.ListN.{length, take};
 ghost use Rattle.model.specs.Model.{input, output};
 ghost use Rattle.monitor.specs.Session.{Sound};
-ghost use Rattle.monitor.specs.Feed.{Forgot, Held, FlagAfter, MovedOn, FedTo, Feeds};
+ghost use Rattle.monitor.specs.Feed.{FlagAfter, MovedOn, FedTo, Feeds};
 ghost use Rattle.model.specs.Limits.{most-events};
 ghost use Rattle.monitor.specs.Sets.{Finds};
+use crate::event;
 use crate::session::Flag;
 use crate::session::MOST_EVENTS;
 use crate::session::Session;
 use crate::sound;
-use crate::sweep;
 use table::Refusal;
 use table::Symbol;
 use table::Test;
@@ -23,42 +23,8 @@ pub struct Fed {
     pub session: Session,
 }
 
-// The bytes go down by one place, up to the last.
-fn forget(held: &mut [u8; 32], last: usize)
-    requires { ⌜ (last < 32) × (length (now held) ≡ 32) ⌝ }
-    ensures { λ _. ⌜ Forgot last (now (held .entry)) (now (held .exit)) ⌝ }
-{
-    let mut k: usize = 0;
-    while k < last {
-        let x = held[k + 1];
-        held[k] = x;
-        k += 1;
-    }
-}
-
-// The n held inputs, of at most `most`, with a after them: the oldest is forgotten where they were as many.
-fn hold(held: &mut [u8; 32], n: usize, most: usize, a: u8)
-    requires { ⌜ (n ≤ most) × (0 < most) × (most ≤ 32) × (length (now held) ≡ 32) ⌝ }
-    ensures { λ _. ⌜ Held n most a (now (held .entry)) (now (held .exit)) ⌝ }
-{
-    if n < most {
-        held[n] = a;
-        return;
-    }
-    forget(&mut *held, most - 1);
-    held[most - 1] = a;
-}
-
-// How many are held after one more, of at most `most`.
-fn grown(n: usize, most: usize) -> usize
-    requires { ⌜ (n ≤ most) × (0 < most) × (most ≤ 32) ⌝ }
-    ensures { λ r. ⌜ r ≡ min (n + 1) most ⌝ }
-{
-    if n < most { n + 1 } else { most }
-}
-
 // A flag stays; where there was none and nothing was found, it falls at this event.
-fn flagged(flag: Flag, found: bool, event: usize) -> Flag
+pub fn flagged(flag: Flag, found: bool, event: usize) -> Flag
     ensures { λ r. ⌜ ((set : List ℕ) → Finds set found → FlagAfter event set flag r) ⌝ }
 {
     match flag {
@@ -99,17 +65,16 @@ fn arrive(s: Session, a: u8) -> Session
     let most = s.waiting as usize;
     let n = sound::held_count(s.waiting, s.arrived);
     let mut held = s.held;
-    hold(&mut held, n, most, a);
-    let top = grown(n, most);
     let mut set = s.set;
-    sweep::shift(&mut set, top);
-    sweep::sweep(
+    event::arrived(
         &mut set,
+        &mut held,
         &s.rows,
         s.inputs + s.outputs,
-        &held,
-        top,
+        most,
         s.losses as usize,
+        n,
+        a,
     );
     moved_on(s, set, held, s.arrived + 1)
 }
@@ -121,10 +86,16 @@ fn send(s: Session, a: u8) -> Session
 {
     let n = sound::held_count(s.waiting, s.arrived);
     let held = s.held;
-    let width = s.inputs + s.outputs;
     let mut set = s.set;
-    sweep::send(&mut set, &s.rows, width, s.inputs + a, n);
-    sweep::sweep(&mut set, &s.rows, width, &held, n, s.losses as usize);
+    event::sent(
+        &mut set,
+        &held,
+        &s.rows,
+        s.inputs + s.outputs,
+        s.inputs + a,
+        s.losses as usize,
+        n,
+    );
     moved_on(s, set, held, s.arrived)
 }
 

@@ -5,8 +5,8 @@ ghost use mathlib.Core.Logic.{_↔_, _⊎_};
 ghost use Prim.Native.Nat.{ℕ, _+_, _*_, _≤_, _<_};
 ghost use lib.ListN.{length};
 ghost use Rattle.states.specs.In.{In, Least, Most};
-ghost use Rattle.monitor.specs.Run.{number};
-ghost use Rattle.monitor.specs.Summary.{Added, Sums, LineOf, Put};
+ghost use Rattle.monitor.specs.Run.{Put};
+ghost use Rattle.monitor.specs.Summary.{Added, Sums, LineOf};
 
 // Three sets of numbers, as words: the states of a set of configurations, its waiting counts and its runs.
 pub struct Sum {

@@ -4,10 +4,10 @@ use Prim.Native.Nat.{ℕ, _+_, _-_, _*_, _≤_, _<_}
 use mathlib.Core.Path.{_≡_, refl, sym, _∙_, ap}
 use native.Mathlib.Omega.{arith}
 use borrow.Author.Needs.{needs}
-use Rattle.monitor.proofs.feed.forget.Statement.{statement}
-use Rattle.monitor.proofs.feed.forget.Tie as tie
-use Rattle.monitor.proofs.feed.forget.Reads as reads
-use Rattle.monitor.proofs.feed.forget.Lts as lts
+use Rattle.monitor.proofs.event.forget.Statement.{statement}
+use Rattle.monitor.proofs.event.forget.Tie as tie
+use Rattle.monitor.proofs.event.forget.Reads as reads
+use Rattle.monitor.proofs.event.forget.Lts as lts
 
 abbrev Inv-loop : tie.InvT-loop
 Inv-loop held₀ last k₀ held k = (k ≤ last) × Written 0 k (λ i. getD held₀ (i + 1) 0) held₀ held

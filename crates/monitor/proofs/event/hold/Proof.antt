@@ -4,11 +4,11 @@ use Prim.Native.Nat.{ℕ, _+_, _-_, _*_, _≤_, _<_, min}
 use mathlib.Core.Path.{_≡_, refl, sym, _∙_, ap}
 use native.Mathlib.Omega.{arith}
 use borrow.Author.Needs.{needs}
-use Rattle.monitor.proofs.feed.hold.Statement.{statement}
-use Rattle.monitor.proofs.feed.hold.Tie as tie
-use Rattle.monitor.proofs.feed.hold.Reads as reads
-use Rattle.monitor.proofs.feed.hold.Lts as lts
-use Rattle.monitor.proofs.feed.forget.Reads as forget-reads
+use Rattle.monitor.proofs.event.hold.Statement.{statement}
+use Rattle.monitor.proofs.event.hold.Tie as tie
+use Rattle.monitor.proofs.event.hold.Reads as reads
+use Rattle.monitor.proofs.event.hold.Lts as lts
+use Rattle.monitor.proofs.event.forget.Reads as forget-reads
 
 -- src/feed.rt:45:9
 element-write-held : tie.Need-element-write-held

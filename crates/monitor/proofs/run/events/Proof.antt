@@ -1,0 +1,86 @@
+use Rattle.monitor.specs.Run.{is-invalid, invalid-at, events-test}
+use Rattle.table.proofs.First.{none-more, found}
+use Rattle.table.specs.First as search
+use mathlib.Core.Bool.{true, false}
+use mathlib.Core.Option.{none}
+use lib.ListN.{length, getD}
+use Prim.Native.Nat.{ℕ, _+_, _-_, _*_, _≤_, _<_}
+use mathlib.Core.Path.{_≡_, refl, sym, _∙_, ap}
+use native.Mathlib.Omega.{arith}
+use borrow.Author.Needs.{needs}
+use Rattle.monitor.proofs.run.events.Statement.{statement}
+use Rattle.monitor.proofs.run.events.Tie as tie
+use Rattle.monitor.proofs.run.events.Reads as reads
+use Rattle.monitor.proofs.run.events.Lts as lts
+use Rattle.monitor.proofs.run.invalid.Reads as invalid-reads
+use Rattle.table.proofs.event.Reads as event-reads
+
+abbrev Inv-loop : tie.InvT-loop
+Inv-loop trace inputs outputs k₀ k = (k ≤ length trace) × (search.first (invalid-at trace inputs outputs) k ≡ none)
+
+abbrev μ-loop : tie.MeasureT-loop
+μ-loop trace inputs outputs k₀ k = length trace - k
+
+-- src/run.rt:43:5
+loop-holds : tie.Need-loop-holds Inv-loop μ-loop
+unfolding search.first
+loop-holds c = (omega arith, refl)
+
+-- src/run.rt:44:33
+shared-slice-read-event : tie.Need-shared-slice-read-event Inv-loop μ-loop
+shared-slice-read-event c = search needs
+
+-- src/run.rt:44:20
+event-requires : tie.Need-event-requires Inv-loop μ-loop
+event-requires c κs = search needs
+
+-- src/run.rt:44:12
+invalid-requires : tie.Need-invalid-requires Inv-loop μ-loop
+invalid-requires c κs = search needs
+
+-- src/run.rt:45:13
+returns : tie.Need-returns Inv-loop μ-loop
+unfolding events-test
+returns c =
+    let l = c .before .before .before .before .before .loop in
+    let is = ap is-invalid (sym (c .before .before .event .ensures)) ∙ sym (c .before .invalid .ensures) ∙ c .if1 .taken in
+    rw (found (invalid-at (c .before .before .before .before .before .before .before .args .trace .now) (c .before .before .before .before .before .before .before .args .inputs) (c .before .before .before .before .before .before .before .args .outputs)) (length (c .before .before .before .before .before .before .before .args .trace .now)) {k = l .k} (l .inv .1) is (omega arith))
+
+-- src/run.rt:47:9
+add-k : tie.Need-add-k Inv-loop μ-loop
+add-k c = search needs
+
+-- src/run.rt:43:5
+loop-less : tie.Need-loop-less Inv-loop μ-loop
+loop-less c = search needs
+
+-- src/run.rt:43:5
+loop-again : tie.Need-loop-again Inv-loop μ-loop
+loop-again c =
+    let l = c .before .before .before .before .before .loop in
+    let is = ap is-invalid (sym (c .before .before .event .ensures)) ∙ sym (c .before .invalid .ensures) ∙ c .if1 .left in
+    (omega arith, none-more (invalid-at (c .before .before .before .before .before .before .before .args .trace .now) (c .before .before .before .before .before .before .before .args .inputs) (c .before .before .before .before .before .before .before .args .outputs)) (l .k) (l .inv .1) is)
+
+-- src/run.rt:39:1
+returns-2 : tie.Need-returns-2 Inv-loop μ-loop
+unfolding events-test
+returns-2 c =
+    let l = c .before .loop in
+    let e : l .k ≡ length (c .before .before .before .args .trace .now) = omega arith in
+    rw (rw e at (l .inv .1))
+
+pub events-spec : {M : Type 1} → statement M
+events-spec =
+    tie.close
+    (tie.spec
+    Inv-loop
+    μ-loop
+    loop-holds
+    shared-slice-read-event
+    event-requires
+    invalid-requires
+    returns
+    add-k
+    loop-less
+    loop-again
+    returns-2)
