@@ -12,3 +12,4 @@ mod Opened
 mod Sessions
 mod Sums
 mod Running
+mod Whole

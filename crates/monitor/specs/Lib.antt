@@ -6,3 +6,4 @@ pub mod Event
 pub mod Laws
 pub mod Run
 pub mod Summary
+pub mod RunLaws

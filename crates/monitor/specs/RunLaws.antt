@@ -1,0 +1,48 @@
+-- What is shown of whole runs, each under one sentence. proofs/Laws.antt proves them all. Assumes nothing.
+use mathlib.Core.Path.{_≡_}
+use mathlib.Core.List.{List}
+use Prim.Native.Nat.{ℕ, suc, _*_, _<_}
+use lib.ListN.{length, take as first}
+use Rattle.model.specs.Model.{events, Config, Set}
+use Rattle.model.specs.Demands.{Slack, Later}
+use Rattle.table.specs.Bytes.{table-of}
+use Rattle.table.specs.declared.answer.Test.the-variants.{Passed}
+use Rattle.states.specs.In.{In}
+use Rattle.monitor.specs.declared.session.Session.{Session}
+use Rattle.monitor.specs.declared.session.Flag.{Flag}
+use Rattle.monitor.specs.declared.run.Ran.{Ran}
+use Rattle.monitor.specs.Sets.{Holds}
+use Rattle.monitor.specs.Open.{opening, begun}
+use Rattle.monitor.specs.Laws.{place-of, FedAll}
+use Rattle.monitor.specs.Run.{Line, At, RunTo, Runs}
+
+-- A set has one line.
+abbrev pub OneLine : Type 1
+OneLine = (S : Set ℕ) (l l′ : List ℕ) → Line S l → Line S l′ → l ≡ l′
+
+-- Any two answers that a run may give are equal, and so is the memory that they leave.
+abbrev pub OneRun : Type 0
+OneRun =
+    (rows : List ℕ) (s i o B c : ℕ) (trace before : List ℕ) (r r′ : Ran) (after after′ : List ℕ) → Runs rows s i o B c trace before r after
+    → Runs rows s i o B c trace before r′ after′ → (r ≡ r′) × (after ≡ after′)
+
+-- A run and feeding agree event by event: the bytes of event k are the line of the session fed so far; and so does the flag.
+pub record Agree (rows : List ℕ) (s i o B c : ℕ) (trace after : List ℕ) (f : Flag) : Type 0 where
+  pub lines : (k : ℕ) (t : Session) → k < length trace → FedAll (begun rows s i o B c) (first (suc k) trace) t → (line : List ℕ) × Line (Holds (t .set)) line × At (12 * k) line after
+  pub flag : (t : Session) → FedAll (begun rows s i o B c) trace t → t .flag ≡ f
+
+abbrev pub RunsAsFed : Type 0
+RunsAsFed =
+    (rows : List ℕ) (s i o B c : ℕ) (trace before after : List ℕ) (f : Flag) → opening rows s i o B c ≡ Passed
+    → RunTo rows s i o B c trace before after f → Agree rows s i o B c trace after f
+
+-- Demand 3 for runs: allowing more, each state in the line of an event is in the line of the event that it became; and the flag does not
+-- come earlier.
+abbrev pub RunsAllowMore : Type 0
+RunsAllowMore =
+    (rows rows′ : List ℕ) (s i o s′ i′ o′ B c B′ c′ j : ℕ) (trace trace′ before before′ after after′ : List ℕ) (f f′ : Flag)
+    (r : RunTo rows s i o B c trace before after f) (r′ : RunTo rows′ s′ i′ o′ B′ c′ trace′ before′ after′ f′)
+    → ((k k′ : ℕ) (l : k < length trace) (l′ : k′ < length trace′)
+    → Slack (table-of rows s i o) (table-of rows′ s′ i′ o′) B c B′ c′ j (events (first (suc k) trace)) (events (first (suc k′) trace′))
+    → (q : ℕ) → In q (r .lines k l .1 .states) → In q (r′ .lines k′ l′ .1 .states))
+    × (Slack (table-of rows s i o) (table-of rows′ s′ i′ o′) B c B′ c′ j (events trace) (events trace′) → Later (place-of f) (place-of f′))
