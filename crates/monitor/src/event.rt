@@ -41,7 +41,7 @@ fn grown(n: usize, most: usize) -> usize
 }
 
 // Input a comes. The line has the n newest inputs, of at most `most`; how many it has then is the answer.
-pub fn arrived(
+pub(crate) fn arrived(
     set: &mut [u64; 264],
     held: &mut [u8; 32],
     rows: &[u8],
@@ -62,7 +62,7 @@ pub fn arrived(
 }
 
 // An output is seen, which stands in this column. The line has the n newest inputs.
-pub fn sent<'a>(
+pub(crate) fn sent<'a>(
     set: &mut [u64; 264],
     held: &'a [u8; 32],
     rows: &'a [u8],

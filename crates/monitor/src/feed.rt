@@ -24,7 +24,7 @@ pub struct Fed {
 }
 
 // A flag stays; where there was none and nothing was found, it falls at this event.
-pub fn flagged(flag: Flag, found: bool, event: usize) -> Flag
+pub(crate) fn flagged(flag: Flag, found: bool, event: usize) -> Flag
     ensures { λ r. ⌜ ((set : List ℕ) → Finds set found → FlagAfter event set flag r) ⌝ }
 {
     match flag {

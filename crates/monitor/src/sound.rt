@@ -116,7 +116,7 @@ fn set_fits(set: &[u64; 264], states: u8, waiting: u8, losses: u8, arrived: usiz
 }
 
 // How many inputs are held: B of them, or all seen if fewer.
-pub fn held_count(waiting: u8, arrived: usize) -> usize
+pub(crate) fn held_count(waiting: u8, arrived: usize) -> usize
     ensures { λ r. ⌜ r ≡ min waiting arrived ⌝ }
 {
     if (waiting as usize) <= arrived {
@@ -134,7 +134,7 @@ fn held_sound(held: &[u8; 32], waiting: u8, arrived: usize, inputs: u8) -> bool
 }
 
 // Whether any configuration is held.
-pub fn any(set: &[u64; 264]) -> bool
+pub(crate) fn any(set: &[u64; 264]) -> bool
     ensures { λ r. ⌜ Finds (now (set .entry)) r ⌝ }
 {
     let mut k: usize = 0;

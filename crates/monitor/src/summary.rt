@@ -9,7 +9,7 @@ ghost use Rattle.monitor.specs.Run.{Put};
 ghost use Rattle.monitor.specs.Summary.{Added, Sums, LineOf};
 
 // Three sets of numbers, as words: the states of a set of configurations, its waiting counts and its runs.
-pub struct Sum {
+pub(crate) struct Sum {
     pub states: u64,
     pub waits: u64,
     pub runs: u64,
@@ -31,7 +31,7 @@ fn with_word(s: Sum, x: u64, w: usize, r: usize) -> Sum
 }
 
 // What stands in the levels up to top.
-pub fn summed(set: &[u64; 264], top: usize) -> Sum
+pub(crate) fn summed(set: &[u64; 264], top: usize) -> Sum
     requires { ⌜ top ≤ 32 ⌝ }
     ensures { λ t. ⌜ Sums (now (set .entry)) (8 * top + 8) t ⌝ }
 {
@@ -50,7 +50,7 @@ pub fn summed(set: &[u64; 264], top: usize) -> Sum
 }
 
 // The line of a sum: a number, least byte first, and the least and most of the two other sets.
-pub fn line(s: Sum) -> [u8; 12]
+pub(crate) fn line(s: Sum) -> [u8; 12]
     ensures { λ r. ⌜ LineOf s r ⌝ }
 {
     let m = s.states;
@@ -71,7 +71,7 @@ pub fn line(s: Sum) -> [u8; 12]
 }
 
 // The twelve bytes are written from a place on.
-pub fn put(out: &mut [u8], place: usize, line: [u8; 12])
+pub(crate) fn put(out: &mut [u8], place: usize, line: [u8; 12])
     requires { ⌜ place + 12 ≤ length (now out) ⌝ }
     ensures { λ _. ⌜ Put place line (now (out .entry)) (now (out .exit)) ⌝ }
 {

@@ -72,7 +72,7 @@ fn lower(set: &mut [u64; 264], rows: &[u8], width: u8, w: usize, a: u8, c: usize
 }
 
 // Any number of takes and losses: `held` has the line, oldest first, of which `top` wait at most.
-pub fn sweep<'a>(
+pub(crate) fn sweep<'a>(
     set: &mut [u64; 264],
     rows: &'a [u8],
     width: u8,
@@ -106,7 +106,7 @@ fn raise(set: &mut [u64; 264], n: usize)
 }
 
 // An input comes: the levels below n go up by one, and nothing is left at waiting 0.
-pub fn shift(set: &mut [u64; 264], n: usize)
+pub(crate) fn shift(set: &mut [u64; 264], n: usize)
     requires { ⌜ (n ≤ 32) × (length (now set) ≡ 264) ⌝ }
     ensures { λ _. ⌜ Shifted n (now (set .entry)) (now (set .exit)) ⌝ }
     ensures { λ _. ⌜ length (now (set .exit)) ≡ 264 ⌝ }
@@ -126,7 +126,7 @@ fn send_level(set: &mut [u64; 264], rows: &[u8], width: u8, column: u8, w: usize
 }
 
 // An output is seen: in the levels up to n every state follows the column.
-pub fn send(set: &mut [u64; 264], rows: &[u8], width: u8, column: u8, n: usize)
+pub(crate) fn send(set: &mut [u64; 264], rows: &[u8], width: u8, column: u8, n: usize)
     requires { ⌜ (n ≤ 32) × (length (now set) ≡ 264) ⌝ }
     ensures { λ _. ⌜ SentOn (now (rows .entry)) width column n (now (set .entry)) (now (set .exit)) ⌝ }
     ensures { λ _. ⌜ length (now (set .exit)) ≡ 264 ⌝ }
