@@ -248,6 +248,44 @@ def fed(s, byte):
     return None, replace(s, set=after, held=held, events=s.events + 1, arrived=arrived, flag=flag)
 
 
+def run_refused(box_counts, rows, trace, room):
+    """The refusal of a whole run, or None. The order is as opening, then 9, 7, 10."""
+    states, inputs, outputs, waiting, losses = box_counts
+    refusal = tested(states, inputs, outputs, rows, waiting, losses)
+    if refusal is not None:
+        return refusal
+    if len(trace) > MOST_EVENTS:
+        return (9, len(trace))
+    for place, byte in enumerate(trace):
+        if not valid(Session(inputs=inputs, outputs=outputs), byte):
+            return (7, place)
+    if room < 12 * len(trace):
+        return (10, 12 * len(trace))
+    return None
+
+
+def twelve(members):
+    """The bytes of a set: its states as a number of eight bytes, then least and most waiting, then least and most run."""
+    if not members:
+        return bytes(8) + b"\xff" * 4
+    number = sum(1 << state for state in {state for state, _, _ in members})
+    waiting = [w for _, w, _ in members]
+    runs = [r for _, _, r in members]
+    return number.to_bytes(8, "little") + bytes([min(waiting), max(waiting), min(runs), max(runs)])
+
+
+def ran(box_counts, rows, trace, out):
+    """The refusal or None, the flag, and the result buffer, of a whole run."""
+    refusal = run_refused(box_counts, rows, trace, len(out))
+    if refusal is not None:
+        return refusal, None, out
+    states, inputs, outputs, waiting, losses = box_counts
+    sets = plausible(Box(states, inputs, outputs, tuple(rows), waiting, losses), trace)[1:]
+    lines = b"".join(twelve(members) for members in sets)
+    flags = [place for place, members in enumerate(sets) if not members]
+    return None, flags[0] if flags else None, lines + out[len(lines) :]
+
+
 def standard_entry(state, column):
     """The standard box's rule: e is the next poll number expected, p the polls taken and not yet reported."""
     e, p = state % 16, state // 16
@@ -453,6 +491,16 @@ class Bench:
             s = changed(self.session, match[2]) if match[2] else self.session
             refusal, after = fed(s, int(match[3]))
             return set_text(after) if refusal is None else refused(refusal) + " unchanged"
+        match = re.fullmatch(
+            r"(?:whole|long) states (\d+) inputs (\d+) outputs (\d+) rows (\d+) B (\d+) c (\d+) room (\d+) trace(?: of (\d+) times ([io]\d+)|((?: [io]\d+)*))",
+            line,
+        )
+        if match:
+            states, inputs, outputs, length, waiting, losses, room = (int(n) for n in match.groups()[:7])
+            trace = event_bytes(match[9]) * int(match[8]) if match[9] else event_bytes(match[10])
+            rows = (TABLE_T + [NOT_ALLOWED] * 2)[:length]
+            refusal, flag, out = ran((states, inputs, outputs, waiting, losses), rows, trace, bytes([170]) * room)
+            return (refused(refusal) if refusal else " ran") + flag_text(flag) + "".join(f" {byte}" for byte in out)
         raise ValueError(f"no case is written so: {line}")
 
 

@@ -43,6 +43,11 @@ fn digested(set: &[u64; 264]) -> Digest {
     d
 }
 
+pub fn empty(set: &[u64; 264]) -> bool {
+    let d = digested(set);
+    d.count == 0
+}
+
 // The lowest bit, or 63.
 fn least(bits: u64) -> usize {
     let mut k: usize = 0;

@@ -14,6 +14,8 @@
 //     change events 2         one field changed from now on (change.rt names the fields)
 //     damage events 2 byte 0  a copy with one field changed is fed the byte
 //     byte 16                 a copy is fed the byte
+//     whole states 2 inputs 1 outputs 2 rows 6 B 2 c 1 room 26 trace i0 o0       a run over T by itself, and its result buffer
+//     long states 2 inputs 1 outputs 2 rows 6 B 2 c 1 room 2 trace of 9 times i0
 //
 // What it must write is in the file `stdout`, which `tests/oracle.py` works out from document 01 alone.
 mod change;
@@ -22,6 +24,7 @@ mod feeds;
 mod figures;
 mod openings;
 mod print;
+mod runs;
 mod same;
 mod script;
 mod view;

@@ -1,9 +1,9 @@
 // Words, numbers, refusals and sessions on standard output.
 ghost use Rattle.io.specs.Counts.{Counts};
+use crate::digest;
 use libc::STDOUT_FILENO;
 use monitor::session::Flag;
 use monitor::session::Session;
-use monitor::sound;
 use table::Refusal;
 use table::Test;
 
@@ -96,17 +96,17 @@ pub fn flag(f: Flag) {
     }
 }
 
-// The inputs that a session holds.
+// The inputs that a session holds: B of them, or all seen if fewer.
 pub fn held(s: Session) {
     text(b" held");
     let held = s.held;
-    let n = fitting(&held, sound::held_count(s.waiting, s.arrived));
-    bytes(&held[..n]);
+    let n = fitting(&held, s.waiting as usize);
+    part(&held[..n], 0, s.arrived);
 }
 
 // A session's configurations, counts and flag.
 pub fn session(s: Session) {
-    if !sound::any(&s.set) {
+    if digest::empty(&s.set) {
         text(b" empty");
     }
     configurations(&s.set);

@@ -7,6 +7,7 @@ use crate::figures;
 use crate::figures::Figures;
 use crate::openings;
 use crate::print;
+use crate::runs;
 use crate::view;
 use monitor::session::Session;
 
@@ -30,13 +31,15 @@ fn line_end(s: &[u8], from: usize) -> usize
     i
 }
 
-// Lines that only look at the session, or at a copy of it.
+// Lines that only look at the session, or at a copy of it, or run on their own.
 fn looked(s: Session, verb: u8, field: u8, f: Figures) {
     match verb {
         b'v' => view::view(s),
         b'r' => view::row(s, f),
         b'd' => feeds::offered(change::changed(s, field, f), figures::last(f)),
         b'b' => feeds::offered(s, figures::last(f)),
+        b'w' => runs::whole(f),
+        b'l' => runs::long(f),
         _ => print::text(b" ?"),
     }
 }
