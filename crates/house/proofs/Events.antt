@@ -1,0 +1,84 @@
+-- Laws of the events: which is the first that is not valid. Assumes nothing.
+use mathlib.Core.Path.{_≡_, refl, ap, _∙_}
+use mathlib.Core.Bool.{true, false}
+use mathlib.Core.List.{List}
+use mathlib.Core.Option.{Option, some, none}
+use Prim.Native.Nat.{ℕ, _+_, _-_, _≤_, _<_}
+use native.Mathlib.Decide.{decLt}
+use native.Mathlib.Omega.{arith}
+use lib.ListN.{length}
+use Rattle.table.proofs.Laws.{found-none, found-first}
+use Rattle.table.specs.Bytes.{symbol-of}
+use Rattle.table.specs.First.{first}
+use Rattle.house.specs.Limits.{event-kind}
+use Rattle.house.specs.File.{block-at, blocks, share, joined, events-of}
+use Rattle.table.specs.Refusals.{told}
+use Rattle.monitor.specs.Run.{is-invalid, invalid-at, unless-invalid, events-test}
+use Rattle.house.specs.Reading.{place-or, valid-events, or-else}
+use Rattle.house.proofs.Files.{joined-at, joined-fits}
+
+-- the place that the test of number 7 tells
+placed : (f : Option ℕ) (n : ℕ) → place-or (unless-invalid f) n ≡ or-else f n
+unfolding told
+placed none n = refl
+placed (some k) n = refl
+
+module _ (i o : ℕ) where
+  pub valid-told : (es : List ℕ) → place-or (events-test es i o) (length es) ≡ valid-events i o es
+  unfolding events-test valid-events
+  valid-told es = placed (first (invalid-at es i o) (length es)) (length es)
+
+  -- so far, all are valid
+  abbrev pub Clean : List ℕ → ℕ → Type 0
+  Clean es n = (j : ℕ) → j < n → invalid-at es i o j ≡ false
+
+  pub valid-all : (es : List ℕ) (n : ℕ) → n ≡ length es → Clean es n → n ≡ valid-events i o es
+  unfolding valid-events
+  valid-all es n e h = rw (found-none (invalid-at es i o) (length es) .1 (λ j l. h j (omega arith))) e
+
+  pub valid-to : (es : List ℕ) (k : ℕ) → k < length es → Clean es k → invalid-at es i o k ≡ true → k ≡ valid-events i o es
+  unfolding valid-events
+  valid-to es k l h b = rw (found-first (invalid-at es i o) (length es) k .1 (l, b, h))
+
+  -- what the number says
+  pub record Known (es : List ℕ) (n : ℕ) : Type 0 where
+    pub within : n ≤ length es
+    pub before : Clean es n
+    pub at : n < length es → invalid-at es i o n ≡ true
+
+  pub valid-known : (es : List ℕ) (n : ℕ) → n ≡ valid-events i o es → Known es n
+  unfolding valid-events
+  valid-known es n e = go (first (invalid-at es i o) (length es)) refl e
+    where
+      go : (f : Option ℕ) → first (invalid-at es i o) (length es) ≡ f → n ≡ or-else f (length es) → Known es n
+      go none g e =
+          record {
+            within = omega arith;
+            before = λ j l. found-none (invalid-at es i o) (length es) .0 g j (omega arith);
+            at = λ l. absurd (omega arith);
+          }
+      go (some k) g e =
+          let (l, b, h) = found-first (invalid-at es i o) (length es) k .0 g in
+          record { within = omega arith; before = rw e h; at = λ m. rw e b }
+
+  -- a part of the events, after those of the blocks before it
+  module _ (s p : List ℕ) (k at : ℕ) (e : p ≡ share event-kind (block-at s k)) (f : at ≡ length (joined event-kind s k)) (h : k < blocks s) where
+    same : (j : ℕ) → j < length p → invalid-at (events-of s) i o (at + j) ≡ invalid-at p i o j
+    same j l =
+        let m : j < length (share event-kind (block-at s k)) = rw e at l in
+        ap (λ (x : ℕ). is-invalid (symbol-of x i o))
+        (rw (e, f) (joined-at event-kind s k (blocks s) j h m))
+
+    -- n more are valid
+    pub clean-more : (n : ℕ) → n ≤ length p → Clean (events-of s) at → Clean p n → Clean (events-of s) (at + n)
+    clean-more n m c d j l =
+        elim (decLt j at) [
+          | yes x ↦ c j x
+          | no x ↦ let g : j ≡ at + (j - at) = omega arith in rw g (same (j - at) (omega arith) ∙ d (j - at) (omega arith))
+        ]
+
+    -- the first that is not valid stands in it
+    pub found : {n : ℕ} → Clean (events-of s) at → Known p n → n < length p → at + n ≡ valid-events i o (events-of s)
+    found {n} c v l =
+        valid-to (events-of s) (at + n) (omega (arith, joined-fits event-kind s k (blocks s) h, ap length e))
+        (clean-more n (v .within) c (v .before)) (same n l ∙ v .at l)

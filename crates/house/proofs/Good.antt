@@ -1,0 +1,147 @@
+-- A file is read exactly when it is good and the buffers have room. Assumes nothing.
+use mathlib.Core.Path.{_≡_, refl, sym, ap, _∙_}
+use mathlib.Core.Bool.{true, false}
+use mathlib.Core.List.{List, [], _∷_}
+use mathlib.Core.Logic.{_↔_}
+use Prim.Native.Nat.{ℕ, _+_, _≤_, _<_}
+use native.Mathlib.Nat.{zero-mul}
+use native.Mathlib.Omega.{arith}
+use lib.Dec.{eqb}
+use lib.ListN.{length, getD}
+use borrow.Author.Tests.{eqb-true, eq-eqb, leb-true, le-leb}
+use Rattle.model.specs.Table.{Bounded}
+use Rattle.table.proofs.Checks.{clash, both}
+use Rattle.table.proofs.Laws.{counts-pass, length-passes, entries-pass, table-passes, bounds-pass}
+use Rattle.table.specs.Bytes.{symbol-of, table-of}
+use Rattle.table.specs.Tests.{counts-test, length-test, entries-test, bounds-test}
+use Rattle.table.specs.declared.answer.Refusal.the-variants as told
+use Rattle.table.specs.declared.answer.Symbol.{Symbol}
+use Rattle.table.specs.declared.answer.Symbol.the-variants.{Input, Output, Invalid}
+use Rattle.table.specs.declared.answer.Test.the-variants as table
+use Rattle.monitor.specs.Run.{is-invalid}
+use Rattle.house.specs.Limits.{most-events, standard-states, standard-inputs, standard-outputs}
+use Rattle.house.specs.Verdicts.{of-table}
+use Rattle.house.specs.File.{rows-of, events-of, contents-of}
+use Rattle.house.specs.Reading.{is-standard, states-held, valid-events, shape-test, rows-test, limits-test, events-test, room-test, content-test, verdict}
+use Rattle.house.specs.Laws.{GoodRows, ReadExactly}
+use Rattle.house.specs.declared.answer.Contents.{Contents}
+use Rattle.house.specs.declared.answer.Refusal.the-variants as refusal
+use Rattle.house.specs.declared.answer.Source.{Source}
+use Rattle.house.specs.declared.answer.Source.the-variants.{Rows, Standard}
+use Rattle.house.specs.declared.answer.Verdict.the-variants.{Passed}
+use Rattle.house.proofs.Contents.{Passes, shape-passed, room-passed, verdict-passed}
+use Rattle.house.proofs.Events.{valid-all, valid-known}
+use Rattle.house.proofs.Forms.{form-passes}
+use Rattle.house.proofs.Verdicts.{must-passed, table-passed, then-passed}
+
+-- ROWS
+
+empty : (l : List ℕ) → length l ≡ 0 → l ≡ []
+empty [] e = refl
+empty (x ∷ l) e = absurd (omega arith)
+
+-- 2, 3, 14, 1 and 4 pass exactly when the rows are good
+module _ (s i o : ℕ) (rows : List ℕ) where
+  abbrev Fits : Source → Type 0
+  Fits x =
+      (counts-test s i o ≡ table.Passed)
+      × (is-standard x s i o ≡ true)
+      × (length-test (length rows) (states-held x s) i o ≡ table.Passed)
+      × (entries-test (table-of rows (states-held x s) i o) ≡ table.Passed)
+
+  rows-good : (x : Source) → Fits x → GoodRows x s i o rows
+  rows-good Rows (p, q, r, t) = table-passes (table-of rows s i o) .0 (p, r, t)
+  rows-good Standard (p, q, r, t) =
+      let (a, q′) = both (eqb s standard-states) _ q in
+      let (b, c) = both (eqb i standard-inputs) _ q′ in (
+        eqb-true s standard-states a,
+        eqb-true i standard-inputs b,
+        eqb-true o standard-outputs c,
+        empty rows (length-passes (length rows) 0 i o .0 r ∙ zero-mul (i + o)),
+      )
+
+  good-fits : (x : Source) → GoodRows x s i o rows → Fits x
+  good-fits Rows v = let (p, r, t) = table-passes (table-of rows s i o) .1 v in (p, refl, r, t)
+  good-fits Standard (a, b, c, n) = (
+    counts-pass s i o .1 ((omega arith, omega arith), (omega arith, omega arith), (omega arith, omega arith)),
+    rw (eq-eqb s standard-states a, eq-eqb i standard-inputs b, eq-eqb o standard-outputs c),
+    length-passes (length rows) 0 i o .1 (ap length n ∙ sym (zero-mul (i + o))),
+    entries-pass (table-of rows 0 i o) .1 (λ s k t l. absurd (omega arith)),
+  )
+
+-- EVENTS
+
+not-invalid : (x : Symbol) → is-invalid x ≡ false ↔ (x ≡ Invalid → ⊥)
+not-invalid (Input a) = (λ e z. clash (cc), λ f. refl)
+not-invalid (Output a) = (λ e z. clash (cc), λ f. refl)
+not-invalid Invalid = (λ e. clash (cc), λ f. absurd (f refl))
+
+-- ALL CONTENTS
+
+module _ (c : Contents) (rows events : List ℕ) (n : c .rows ≡ length rows) (m : c .events ≡ length events) (a b : ℕ) where
+  pub record Goods : Type 0 where
+    pub table : GoodRows (c .source) (c .states) (c .inputs) (c .outputs) rows
+    pub bounds : Bounded (c .waiting) (c .losses)
+    pub few : length events ≤ most-events
+    pub valid : (k : ℕ) → k < length events → symbol-of (getD events k 0) (c .inputs) (c .outputs) ≡ Invalid → ⊥
+    pub room : (length rows ≤ a) × (length events ≤ b)
+
+  all-valid : valid-events (c .inputs) (c .outputs) events ≡ c .events ↔ ((k : ℕ) → k < length events → symbol-of (getD events k 0) (c .inputs) (c .outputs) ≡ Invalid → ⊥)
+  all-valid = (
+    λ e k l. not-invalid (symbol-of (getD events k 0) (c .inputs) (c .outputs)) .0
+        (valid-known (c .inputs) (c .outputs) events (c .events) (sym e) .before k (omega arith)),
+    λ h. sym (valid-all (c .inputs) (c .outputs) events (c .events) m
+        (λ k l. not-invalid (symbol-of (getD events k 0) (c .inputs) (c .outputs)) .1 (h k (omega arith)))),
+  )
+
+  content-good : Passes c rows events a b → Goods
+  unfolding rows-test limits-test events-test
+  content-good p =
+      let (s, t, l) = shape-passed c (p .shape) in
+      let (x, y) = then-passed (of-table (bounds-test (c .waiting) (c .losses))) _ (p .limits) in
+      let (u, v) = room-passed c a b (p .room) in
+      let few = leb-true (c .events) most-events (must-passed _ (refusal.Content (told.Events (c .events))) y) in
+      record {
+        table = rows-good (c .states) (c .inputs) (c .outputs) rows (c .source) (s, t, rw n at l, table-passed _ (p .entries));
+        bounds = bounds-pass (c .waiting) (c .losses) .0 (table-passed _ x);
+        few = omega arith;
+        valid = all-valid .0 (eqb-true _ _ (must-passed _ _ (p .trace)));
+        room = (omega arith, omega arith);
+      }
+
+  good-content : Goods → content-test c rows events a b ≡ Passed
+  unfolding content-test shape-test rows-test limits-test events-test room-test
+  good-content g =
+      let (s, t, l, r) = good-fits (c .states) (c .inputs) (c .outputs) rows (c .source) (g .table) in
+      let few : c .events ≤ most-events = omega (arith, g .few) in
+      let room : c .events ≤ b = omega (arith, g .room) in
+      rw (
+        s,
+        t,
+        n,
+        l,
+        r,
+        bounds-pass (c .waiting) (c .losses) .1 (g .bounds),
+        le-leb _ _ few,
+        eq-eqb _ _ (all-valid .1 (g .valid)),
+        le-leb _ _ (g .room .0),
+        le-leb _ _ room,
+      )
+
+-- THE FILE
+
+pub read-exactly : ReadExactly
+unfolding verdict contents-of
+read-exactly s a b = (
+  λ e.
+      let (f, p) = verdict-passed s a b e in
+      let g = content-good (contents-of s) (rows-of s) (events-of s) refl refl a b p in (
+        record { form = form-passes s .0 f; rows = g .table; bounds = g .bounds; few = g .few; valid = g .valid },
+        g .room .0,
+        g .room .1,
+      ),
+  λ (g, l, m).
+      rw (form-passes s .1 (g .form))
+      (good-content (contents-of s) (rows-of s) (events-of s) refl refl a b
+      (record { table = g .rows; bounds = g .bounds; few = g .few; valid = g .valid; room = (l, m) })),
+)

@@ -1,0 +1,89 @@
+-- Every statement of specs/Laws.antt, proved, under one roof: other crates take the laws from here. Assumes nothing.
+use mathlib.Core.Path.{_≡_, refl, sym, ap, _∙_}
+use mathlib.Core.List.{List, []}
+use Prim.Native.Nat.{ℕ, _≤_}
+use native.Mathlib.Omega.{arith}
+use lib.ListN.{length, drop}
+use lib.Seq.{take-append-seam, drop-append-seam}
+use Rattle.house.specs.File.{rows-of, events-of, contents-of, front}
+use Rattle.table.proofs.Checks.{clash}
+use Rattle.house.specs.Reading.{verdict, after, Answers}
+use Rattle.house.specs.Laws.{BlockPasses, FirstStray, FormPasses, FirstBad, OneReading, NothingWritten, Starts, WhatIsHeld, GoodRows, ReadExactly, WhatIsGood, RowsUntouched}
+use Rattle.house.specs.declared.answer.Contents.{Contents}
+use Rattle.house.specs.declared.answer.Reading.the-variants.{Good}
+use Rattle.house.specs.declared.answer.Source.{Source}
+use Rattle.house.specs.declared.answer.Source.the-variants.{Rows, Standard}
+use Rattle.house.specs.declared.answer.Verdict.the-variants.{Passed}
+use Rattle.house.proofs.Contents.{good-passed, good-contents}
+use Rattle.house.proofs.Events.{valid-known, valid-to}
+use Rattle.house.proofs.Forms
+use Rattle.house.proofs.Good
+
+-- The blocks.
+pub block-passes : BlockPasses
+block-passes = Forms.block-passes
+
+pub form-passes : FormPasses
+form-passes = Forms.form-passes
+
+pub first-stray : FirstStray
+first-stray = Forms.first-stray
+
+-- The events.
+pub first-bad : FirstBad
+first-bad i o es k l = (
+  λ e. let v = valid-known i o es k (sym e) in (v .at l, v .before),
+  λ (b, h). sym (valid-to i o es k l h b),
+)
+
+-- The reading.
+pub one-reading : OneReading
+one-reading s d e r₁ r₂ d₁ d₂ e₁ e₂ x y =
+    let r = x .reading ∙ sym (y .reading) in
+    (r, x .rows ∙ ap (λ z. after z d (rows-of s)) r ∙ sym (y .rows), x .events ∙ ap (λ z. after z e (events-of s)) r ∙ sym (y .events))
+
+pub nothing-written : NothingWritten
+nothing-written s d e r d′ e′ x = (x .rows, x .events)
+
+-- a file that was read passed its tests, and its contents were answered
+passed : (s d e : List ℕ) (c : Contents) (d′ e′ : List ℕ) → Answers s d e (Good c) d′ e′ → verdict s (length d) (length e) ≡ Passed
+passed s d e c d′ e′ x = good-passed (verdict s (length d) (length e)) (contents-of s) (Good c) (x .reading) refl
+
+answered : (s d e : List ℕ) (c : Contents) (d′ e′ : List ℕ) → Answers s d e (Good c) d′ e′ → c ≡ contents-of s
+answered s d e c d′ e′ x = good-contents (verdict s (length d) (length e)) (contents-of s) c (x .reading)
+
+pub read-exactly : ReadExactly
+read-exactly = Good.read-exactly
+
+pub what-is-good : WhatIsGood
+what-is-good s d e c d′ e′ x =
+    rw (answered s d e c d′ e′ x) (read-exactly s (length d) (length e) .0 (passed s d e c d′ e′ x) .0)
+
+starts : (d d′ p : List ℕ) (n : ℕ) → n ≡ length p → length p ≤ length d → d′ ≡ front d p → Starts d d′ p n
+starts d d′ p n e l f =
+    record {
+      fits = omega arith;
+      start = rw (e, f) (take-append-seam p (drop (length p) d));
+      later = rw (e, f) (drop-append-seam p (drop (length p) d));
+    }
+
+pub what-is-held : WhatIsHeld
+unfolding contents-of
+what-is-held s d e c d′ e′ x =
+    let i = answered s d e c d′ e′ x in
+    let (g, l, m) = read-exactly s (length d) (length e) .0 (passed s d e c d′ e′ x) in
+    record {
+      contents = i;
+      rows = starts d d′ (rows-of s) (c .rows) (ap (λ (z : Contents). z .rows) i) l (x .rows);
+      events = starts e e′ (events-of s) (c .events) (ap (λ (z : Contents). z .events) i) m (x .events);
+    }
+
+no-rows : (x : Source) (s i o : ℕ) (rows : List ℕ) → x ≡ Standard → GoodRows x s i o rows → rows ≡ []
+no-rows Standard s i o rows e g = g .3
+no-rows Rows s i o rows e g = clash (cc)
+
+pub rows-untouched : RowsUntouched
+rows-untouched s d e c d′ e′ x h =
+    let g = what-is-good s d e c d′ e′ x in
+    let n = no-rows (c .source) (c .states) (c .inputs) (c .outputs) (rows-of s) h (g .rows) in
+    x .rows ∙ ap (front d) n

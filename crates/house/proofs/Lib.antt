@@ -1,0 +1,8 @@
+pub mod Blocks
+pub mod Files
+pub mod Events
+pub mod Verdicts
+pub mod Contents
+pub mod Forms
+pub mod Good
+pub mod Laws

@@ -1,0 +1,76 @@
+-- Laws of the tests in their order. Assumes nothing.
+use mathlib.Core.Path.{_≡_, refl, sym, ap, _∙_}
+use mathlib.Core.Bool.{Bool, true, false}
+use mathlib.Core.List.{List}
+use Prim.Native.Nat.{ℕ, zero, suc, _+_, _-_, _<_}
+use native.Mathlib.Nat.{add-zero, add-suc}
+use native.Mathlib.Numerals.{add-one}
+use native.Mathlib.Omega.{arith}
+use Rattle.table.proofs.Checks.{clash}
+use Rattle.table.specs.declared.answer.Test.{Test}
+use Rattle.table.specs.declared.answer.Test.the-variants as table
+use Rattle.house.specs.Verdicts.{must, of-table, is-passed, then}
+use Rattle.house.specs.Block.{block-test}
+use Rattle.house.specs.File.{block-at, kind-before, used-before}
+use Rattle.house.specs.Reading.{blocks-test}
+use Rattle.house.specs.declared.answer.Refusal.{Refusal}
+use Rattle.house.specs.declared.answer.Verdict.{Verdict}
+use Rattle.house.specs.declared.answer.Verdict.the-variants.{Passed, Refused}
+
+-- ONE TEST AND THE REST
+
+pub all-passed : (v : Verdict) → is-passed v ≡ true → v ≡ Passed
+all-passed Passed e = refl
+all-passed (Refused r) e = clash (cc)
+
+-- what passes
+pub must-passed : (b : Bool) (r : Refusal) → must b r ≡ Passed → b ≡ true
+must-passed true r e = refl
+must-passed false r e = clash (cc)
+
+pub table-passed : (t : Test) → of-table t ≡ Passed → t ≡ table.Passed
+table-passed table.Passed e = refl
+table-passed (table.Refused r) e = clash (cc)
+
+pub then-passed : (v w : Verdict) → then v w ≡ Passed → (v ≡ Passed) × (w ≡ Passed)
+then-passed Passed w e = (refl, e)
+then-passed (Refused r) w e = clash (cc)
+
+-- a test that fails is the answer
+pub refuses : (v w : Verdict) → is-passed v ≡ false → v ≡ then v w
+refuses Passed w e = clash (cc)
+refuses (Refused r) w e = refl
+
+-- THE TESTS OF THE BLOCKS
+
+-- block k as the code looks at it
+pub seen : (s b : List ℕ) (k q u : ℕ) {v : Verdict} → b ≡ block-at s k → q ≡ kind-before s k → u ≡ used-before s k → v ≡ block-test b k q u
+    → v ≡ block-test (block-at s k) k (kind-before s k) (used-before s k)
+seen s b k q u e f g h = h ∙ rw (e, f, g)
+
+-- a block refused is the answer of every longer file
+module _ (s : List ℕ) where
+  pub blocks-none : blocks-test s 0 ≡ Passed
+  unfolding blocks-test
+  blocks-none = refl
+
+  block-more : (k : ℕ) {v : Verdict} → blocks-test s k ≡ Passed → v ≡ block-test (block-at s k) k (kind-before s k) (used-before s k)
+      → blocks-test s (k + 1) ≡ v
+  unfolding blocks-test
+  block-more k e f = ap (blocks-test s) (add-one k) ∙ rw (e, f)
+
+  pub blocks-good : (k : ℕ) (v : Verdict) → blocks-test s k ≡ Passed
+      → v ≡ block-test (block-at s k) k (kind-before s k) (used-before s k) → is-passed v ≡ true → blocks-test s (k + 1) ≡ Passed
+  blocks-good k v e f g = block-more k e f ∙ all-passed v g
+
+  stays : (k m : ℕ) (r : Refusal) → blocks-test s k ≡ Refused r → blocks-test s (k + m) ≡ Refused r
+  unfolding blocks-test
+  stays k zero r e = rw add-zero e
+  stays k (suc m) r e = rw (add-suc, stays k m r e)
+
+  pub blocks-bad : (k n : ℕ) (v : Verdict) → k < n → blocks-test s k ≡ Passed
+      → v ≡ block-test (block-at s k) k (kind-before s k) (used-before s k) → is-passed v ≡ false → v ≡ blocks-test s n
+  blocks-bad k n Passed h e f g = clash (cc)
+  blocks-bad k n (Refused r) h e f g =
+      let i : k + 1 + (n - (k + 1)) ≡ n = omega arith in
+      sym (ap (blocks-test s) (sym i) ∙ stays (k + 1) (n - (k + 1)) r (block-more k e f))

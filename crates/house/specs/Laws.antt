@@ -1,0 +1,105 @@
+-- What is shown of reading, each under one sentence. proofs/Laws.antt proves them all. Assumes nothing.
+use mathlib.Core.Path.{_≡_}
+use mathlib.Core.Bool.{true, false}
+use mathlib.Core.List.{List, []}
+use mathlib.Core.Logic.{_↔_}
+use Prim.Native.Nat.{ℕ, _≤_, _<_}
+use lib.ListN.{length, take, drop, getD}
+use Rattle.model.specs.Table.{Valid, Bounded}
+use Rattle.table.specs.Bytes.{symbol-of, table-of}
+use Rattle.table.specs.declared.answer.Symbol.the-variants.{Invalid}
+use Rattle.house.specs.Limits.{check-at, most-events, standard-states, standard-inputs, standard-outputs}
+use Rattle.house.specs.Block.{stray, GoodBlock, fill-test, block-test}
+use Rattle.house.specs.File.{GoodForm, rows-of, events-of, contents-of}
+use Rattle.monitor.specs.Run.{invalid-at}
+use Rattle.house.specs.Reading.{valid-events, form-test, verdict, Answers}
+use Rattle.house.specs.declared.answer.Contents.{Contents}
+use Rattle.house.specs.declared.answer.Reading.{Reading}
+use Rattle.house.specs.declared.answer.Reading.the-variants.{Good, Refused}
+use Rattle.house.specs.declared.answer.Refusal.{Refusal}
+use Rattle.house.specs.declared.answer.Source.{Source}
+use Rattle.house.specs.declared.answer.Source.the-variants.{Rows, Standard}
+use Rattle.house.specs.declared.answer.Flaw.the-variants.{Fill}
+use Rattle.house.specs.declared.answer.Refusal.the-variants.{Block}
+use Rattle.house.specs.declared.answer.Verdict.the-variants as verdict
+use Rattle.house.specs.declared.answer.Verdict.the-variants.{Passed}
+
+-- THE BLOCKS
+
+-- 12 and 13 are given exactly when a block is not what it must be.
+abbrev pub BlockPasses : Type 0
+BlockPasses = (b : List ℕ) (k q u : ℕ) → block-test b k q u ≡ Passed ↔ GoodBlock b k q u
+
+-- Of the zero fill is told the first byte that should be zero and is not.
+abbrev pub FirstStray : Type 0
+FirstStray =
+    (b : List ℕ) (k i : ℕ)
+    → fill-test b k ≡ verdict.Refused (Block (Fill i) k)
+    ↔ ((i < check-at) × (stray b i ≡ true) × ((j : ℕ) → j < i → stray b j ≡ false))
+
+-- 11, 12 and 13 are given exactly when the file has not 1 to 15 whole blocks that are all good.
+abbrev pub FormPasses : Type 0
+FormPasses = (s : List ℕ) → form-test s ≡ Passed ↔ GoodForm s
+
+-- THE EVENTS
+
+-- With 7 is told the first event that is not valid: a place among the events is told exactly where that one stands.
+abbrev pub FirstBad : Type 0
+FirstBad =
+    (inputs outputs : ℕ) (events : List ℕ) (k : ℕ) → k < length events
+    → valid-events inputs outputs events ≡ k
+    ↔ ((invalid-at events inputs outputs k ≡ true) × ((j : ℕ) → j < k → invalid-at events inputs outputs j ≡ false))
+
+-- THE READING
+
+-- A file's reading is unique: of one file and two buffers, two readings give one answer and leave the same bytes.
+abbrev pub OneReading : Type 0
+OneReading =
+    (s d e : List ℕ) (r₁ r₂ : Reading) (d₁ d₂ e₁ e₂ : List ℕ) → Answers s d e r₁ d₁ e₁ → Answers s d e r₂ d₂ e₂
+    → (r₁ ≡ r₂) × (d₁ ≡ d₂) × (e₁ ≡ e₂)
+
+-- A refused read writes nothing.
+abbrev pub NothingWritten : Type 0
+NothingWritten = (s d e : List ℕ) (r : Refusal) (d′ e′ : List ℕ) → Answers s d e (Refused r) d′ e′ → (d′ ≡ d) × (e′ ≡ e)
+
+-- A buffer d that became d′: it starts with the bytes p, n of them, and later bytes keep their values.
+pub record Starts (d d′ p : List ℕ) (n : ℕ) : Type 0 where
+  pub fits : n ≤ length d
+  pub start : take n d′ ≡ p
+  pub later : drop n d′ ≡ drop n d
+
+-- What is read from a good file is what the file holds: counts, bounds and source, the rows, and the events.
+pub record Held (s d e : List ℕ) (c : Contents) (d′ e′ : List ℕ) : Type 0 where
+  pub contents : c ≡ contents-of s
+  pub rows : Starts d d′ (rows-of s) (c .rows)
+  pub events : Starts e e′ (events-of s) (c .events)
+
+abbrev pub WhatIsHeld : Type 0
+WhatIsHeld = (s d e : List ℕ) (c : Contents) (d′ e′ : List ℕ) → Answers s d e (Good c) d′ e′ → Held s d e c d′ e′
+
+-- The rows of a good file: with source 0 they are those of a valid table; with source 1 there are none, and the counts are 64, 16, 16.
+abbrev pub GoodRows : Source → ℕ → ℕ → ℕ → List ℕ → Type 0
+GoodRows Rows s i o rows = Valid (table-of rows s i o)
+GoodRows Standard s i o rows = (s ≡ standard-states) × (i ≡ standard-inputs) × (o ≡ standard-outputs) × (rows ≡ [])
+
+-- A good file: its blocks, its rows and its bounds are good; it has at most 4,096 events, and all are valid.
+pub record GoodFile (s : List ℕ) (c : Contents) : Type 0 where
+  pub form : GoodForm s
+  pub rows : GoodRows (c .source) (c .states) (c .inputs) (c .outputs) (rows-of s)
+  pub bounds : Bounded (c .waiting) (c .losses)
+  pub few : length (events-of s) ≤ most-events
+  pub valid : (k : ℕ) → k < length (events-of s) → symbol-of (getD (events-of s) k 0) (c .inputs) (c .outputs) ≡ Invalid → ⊥
+
+-- A file is read exactly when it is good and the buffers have room.
+abbrev pub ReadExactly : Type 0
+ReadExactly =
+    (s : List ℕ) (a b : ℕ)
+    → verdict s a b ≡ Passed ↔ (GoodFile s (contents-of s) × (length (rows-of s) ≤ a) × (length (events-of s) ≤ b))
+
+-- So what was read came from a good file.
+abbrev pub WhatIsGood : Type 0
+WhatIsGood = (s d e : List ℕ) (c : Contents) (d′ e′ : List ℕ) → Answers s d e (Good c) d′ e′ → GoodFile s c
+
+-- With source 1 the row buffer is untouched.
+abbrev pub RowsUntouched : Type 0
+RowsUntouched = (s d e : List ℕ) (c : Contents) (d′ e′ : List ℕ) → Answers s d e (Good c) d′ e′ → c .source ≡ Standard → d′ ≡ d

@@ -1,0 +1,168 @@
+// A house file block by block: the tests of its blocks, and what they hold.
+ghost use mathlib.Core.Path.{_≡_};
+ghost use Prim.Native.Nat.{_+_, _<_, _≤_};
+ghost use lib.ListN.{length};
+ghost use lib.Seq.{paste};
+ghost use Rattle.house.specs.Limits.{block-size};
+ghost use Rattle.house.specs.File.{block-at, blocks, share, joined, events-of, put};
+ghost use Rattle.house.specs.Reading.{is-whole, blocks-test, form-test, place-or, valid-events};
+use super::answer::Refusal;
+use super::answer::Verdict;
+use super::answer::passed;
+use super::block;
+use super::block::BLOCK;
+use super::block::EVENTS;
+use monitor::run;
+use table::Test;
+
+const MOST_BLOCKS: usize = 15;
+
+const MOST_BYTES: usize = MOST_BLOCKS * BLOCK;
+
+// Block k.
+fn block_at(file: &[u8], k: usize) -> &[u8]
+    requires { ⌜ k < blocks (now file) ⌝ }
+    ensures { λ r. ⌜ now r ≡ block-at (now (file .entry)) k ⌝ }
+    ensures { λ r. ⌜ length (now r) ≡ block-size ⌝ }
+{
+    let start = BLOCK * k;
+    let end = start + BLOCK;
+    &file[start..end]
+}
+
+// Numbers 12 and 13, block by block: the first block at fault is told.
+fn test(file: &[u8]) -> Verdict
+    ensures { λ r. ⌜ r ≡ blocks-test (now (file .entry)) (blocks (now (file .entry))) ⌝ }
+{
+    let n = file.len() / BLOCK;
+    let mut kind = 0;
+    let mut used = 0;
+    let mut k = 0;
+    while k < n {
+        let b = block_at(file, k);
+        let v = block::test(b, k, kind, used);
+        if !passed(v) {
+            return v;
+        }
+        kind = block::kind(b);
+        used = block::used(b);
+        k += 1;
+    }
+    Verdict::Passed
+}
+
+// Whether a file of so many bytes has whole blocks, at least one and not too many.
+fn whole(n: usize) -> bool
+    ensures { λ r. ⌜ r ≡ is-whole n ⌝ }
+{
+    if n < 1 {
+        return false;
+    }
+    n <= MOST_BYTES && n % BLOCK == 0
+}
+
+// Numbers 11, 12 and 13.
+pub(crate) fn form(file: &[u8]) -> Verdict
+    ensures { λ r. ⌜ r ≡ form-test (now (file .entry)) ⌝ }
+{
+    let n = file.len();
+    if !whole(n) {
+        return Verdict::Refused(Refusal::Length(n));
+    }
+    test(file)
+}
+
+// What block b gives to the payload of kind q.
+fn share(b: &[u8], q: u8) -> &[u8]
+    requires { ⌜ length (now b) ≡ block-size ⌝ }
+    ensures { λ r. ⌜ now r ≡ share q (now (b .entry)) ⌝ }
+{
+    if block::kind(b) == q {
+        block::payload(b)
+    } else {
+        &b[..0]
+    }
+}
+
+// How many bytes the blocks of kind q hold.
+pub(crate) fn measure(file: &[u8], q: u8) -> usize
+    ensures { λ r. ⌜ r ≡ length (joined q (now (file .entry)) (blocks (now (file .entry)))) ⌝ }
+{
+    let n = file.len() / BLOCK;
+    let mut sum = 0;
+    let mut k = 0;
+    while k < n {
+        sum += share(block_at(file, k), q).len();
+        k += 1;
+    }
+    sum
+}
+
+// Copies src over dst from `to` on; the rest of dst stays.
+fn copy(src: &[u8], dst: &mut [u8], to: usize)
+    requires { ⌜ to + length (now src) ≤ length (now dst) ⌝ }
+    ensures { λ _. ⌜ now (dst .exit) ≡ paste (now (dst .entry)) to (now (src .entry)) (length (now (src .entry))) ⌝ }
+{
+    let mut i = 0;
+    while i < src.len() {
+        dst[to + i] = src[i];
+        i += 1;
+    }
+}
+
+// Puts what the blocks of kind q hold at the start of dst, if it has room for all of it; the rest of dst stays.
+pub(crate) fn gather(file: &[u8], q: u8, dst: &mut [u8])
+    ensures { λ _. ⌜ now (dst .exit) ≡ put (now (dst .entry)) (joined q (now (file .entry)) (blocks (now (file .entry)))) ⌝ }
+{
+    if dst.len() < measure(file, q) {
+        return;
+    }
+    let n = file.len() / BLOCK;
+    let mut at = 0;
+    let mut k = 0;
+    while k < n {
+        let part = share(block_at(file, k), q);
+        copy(part, dst, at);
+        at += part.len();
+        k += 1;
+    }
+}
+
+// The place that a test tells; n, if it passed.
+fn place_or(test: Test, n: usize) -> usize
+    ensures { λ r. ⌜ r ≡ place-or test n ⌝ }
+{
+    match test {
+        Test::Passed => n,
+        Test::Refused(r) => {
+            let told = table::tell(r);
+            told.place
+        }
+    }
+}
+
+// How many events come before the first that is not valid; all of them, if there is none.
+fn valid(events: &[u8], inputs: u8, outputs: u8) -> usize
+    ensures { λ r. ⌜ r ≡ valid-events inputs outputs (now (events .entry)) ⌝ }
+{
+    place_or(run::events(events, inputs, outputs), events.len())
+}
+
+// The same of all events of a file, block by block: nothing is copied to look at them.
+pub(crate) fn valid_events(file: &[u8], inputs: u8, outputs: u8) -> usize
+    ensures { λ r. ⌜ r ≡ valid-events inputs outputs (events-of (now (file .entry))) ⌝ }
+{
+    let n = file.len() / BLOCK;
+    let mut at = 0;
+    let mut k = 0;
+    while k < n {
+        let part = share(block_at(file, k), EVENTS);
+        let good = valid(part, inputs, outputs);
+        if good < part.len() {
+            return at + good;
+        }
+        at += part.len();
+        k += 1;
+    }
+    at
+}
