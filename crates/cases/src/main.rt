@@ -6,13 +6,14 @@
 //
 //     open states 2 inputs 1 outputs 2 rows 6 B 2 c 1 byte 0 is 1 byte 4 is 0    all other bytes of the rows are 255
 //     standard box B 4 c 3 byte 565 is 64                                        at most one byte changed
+//     T B 2 c 1               document 01's table T
 //     P2 B 2 c 1 i0           T opened, and fed event by event
 //     feed i0 o0              fed event by event; then the configurations as (state,waiting,run), by waiting, run and state
 //     event i0                one event, and a digest of the set
 //     view                    what the session carries, and whether it is sound
 //     row 17 from 544 for 32  the bytes of a row of the session
 //     change events 2         one field changed from now on (change.rt names the fields)
-//     damage events 2 byte 0  a copy with one field changed is fed the byte
+//     damage events 2, byte 0 a copy with one field changed is fed the byte
 //     byte 16                 a copy is fed the byte
 //     whole states 2 inputs 1 outputs 2 rows 6 B 2 c 1 room 26 trace i0 o0       a run over T by itself, and its result buffer
 //     long states 2 inputs 1 outputs 2 rows 6 B 2 c 1 room 2 trace of 9 times i0
