@@ -7,26 +7,27 @@ use Prim.Native.Nat.{ℕ, _+_, _-_, _≤_, _<_}
 use native.Mathlib.Decide.{decLt}
 use native.Mathlib.Omega.{arith}
 use lib.ListN.{length}
-use Rattle.table.proofs.Laws.{found-none, found-first}
+use Rattle.table.proofs.Laws.{found-none, found-first, event-told}
+use Rattle.monitor.proofs.Laws.{events-pass, first-invalid}
 use Rattle.table.specs.Bytes.{symbol-of}
 use Rattle.table.specs.First.{first}
 use Rattle.house.specs.Limits.{event-kind}
 use Rattle.house.specs.File.{block-at, blocks, share, joined, events-of}
-use Rattle.table.specs.Refusals.{told}
-use Rattle.monitor.specs.Run.{is-invalid, invalid-at, unless-invalid, events-test}
+use Rattle.table.specs.declared.answer.Told.{Told}
+use Rattle.monitor.specs.Run.{is-invalid, invalid-at, events-test}
 use Rattle.house.specs.Reading.{place-or, valid-events, or-else}
 use Rattle.house.proofs.Files.{joined-at, joined-fits}
 
--- the place that the test of number 7 tells
-placed : (f : Option ℕ) (n : ℕ) → place-or (unless-invalid f) n ≡ or-else f n
-unfolding told
-placed none n = refl
-placed (some k) n = refl
-
 module _ (i o : ℕ) where
+  -- the place that the monitor's test of events tells
   pub valid-told : (es : List ℕ) → place-or (events-test es i o) (length es) ≡ valid-events i o es
-  unfolding events-test valid-events
-  valid-told es = placed (first (invalid-at es i o) (length es)) (length es)
+  unfolding valid-events
+  valid-told es = go (first (invalid-at es i o) (length es)) refl
+    where
+      go : (f : Option ℕ) → first (invalid-at es i o) (length es) ≡ f → place-or (events-test es i o) (length es) ≡ or-else f (length es)
+      go none e = rw (events-pass es i o .1 (found-none (invalid-at es i o) (length es) .0 e))
+      go (some k) e =
+          rw (first-invalid es i o k .1 (found-first (invalid-at es i o) (length es) k .0 e)) (ap (λ (t : Told). t .place) (event-told k))
 
   -- so far, all are valid
   abbrev pub Clean : List ℕ → ℕ → Type 0

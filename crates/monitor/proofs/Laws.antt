@@ -1,9 +1,10 @@
 -- Every statement of specs/Laws.antt and specs/RunLaws.antt, proved, under one roof: other crates take the laws from here. Assumes nothing.
 use Rattle.monitor.specs.Laws.{OpeningPasses, OpenedSound, ZerosUnsound, OneFeed, NotRefused, FedSound, PlausibleAfterFeeding, SessionsAllowMore}
-use Rattle.monitor.specs.RunLaws.{OneLine, OneRun, RunsAsFed, RunsAllowMore}
+use Rattle.monitor.specs.RunLaws.{EventsPass, FirstInvalid, OneLine, OneRun, RunsAsFed, RunsAllowMore}
 use Rattle.monitor.proofs.Openings
 use Rattle.monitor.proofs.Opened
 use Rattle.monitor.proofs.Sessions
+use Rattle.monitor.proofs.Traces
 use Rattle.monitor.proofs.Whole
 
 -- Opening.
@@ -34,6 +35,12 @@ pub sessions-allow-more : SessionsAllowMore
 sessions-allow-more = Sessions.sessions-allow-more
 
 -- Whole runs.
+pub events-pass : EventsPass
+events-pass = Traces.events-pass
+
+pub first-invalid : FirstInvalid
+first-invalid = Traces.first-invalid
+
 pub one-line : OneLine
 one-line = Whole.one-line
 

@@ -12,4 +12,5 @@ mod Opened
 mod Sessions
 mod Sums
 mod Running
+mod Traces
 mod Whole

@@ -1,12 +1,15 @@
 -- What is shown of whole runs, each under one sentence. proofs/Laws.antt proves them all. Assumes nothing.
 use mathlib.Core.Path.{_≡_}
+use mathlib.Core.Bool.{true, false}
 use mathlib.Core.List.{List}
+use mathlib.Core.Logic.{_↔_}
 use Prim.Native.Nat.{ℕ, suc, _*_, _<_}
 use lib.ListN.{length, take as first}
 use Rattle.model.specs.Model.{events, Config, Set}
 use Rattle.model.specs.Demands.{Slack, Later}
 use Rattle.table.specs.Bytes.{table-of}
-use Rattle.table.specs.declared.answer.Test.the-variants.{Passed}
+use Rattle.table.specs.declared.answer.Refusal.the-variants.{Event}
+use Rattle.table.specs.declared.answer.Test.the-variants.{Passed, Refused}
 use Rattle.states.specs.In.{In}
 use Rattle.monitor.specs.declared.session.Session.{Session}
 use Rattle.monitor.specs.declared.session.Flag.{Flag}
@@ -14,7 +17,23 @@ use Rattle.monitor.specs.declared.run.Ran.{Ran}
 use Rattle.monitor.specs.Sets.{Holds}
 use Rattle.monitor.specs.Open.{opening, begun}
 use Rattle.monitor.specs.Laws.{place-of, FedAll}
-use Rattle.monitor.specs.Run.{Line, At, RunTo, Runs}
+use Rattle.monitor.specs.Run.{invalid-at, events-test, Line, At, RunTo, Runs}
+
+-- THE EVENTS
+
+-- 7 is given exactly when an event byte is not valid.
+abbrev pub EventsPass : Type 0
+EventsPass =
+    (trace : List ℕ) (i o : ℕ) → events-test trace i o ≡ Passed ↔ ((k : ℕ) → k < length trace → invalid-at trace i o k ≡ false)
+
+-- With 7 is told the first that is not valid.
+abbrev pub FirstInvalid : Type 0
+FirstInvalid =
+    (trace : List ℕ) (i o k : ℕ)
+    → events-test trace i o ≡ Refused (Event k)
+    ↔ ((k < length trace) × (invalid-at trace i o k ≡ true) × ((j : ℕ) → j < k → invalid-at trace i o j ≡ false))
+
+-- THE RUN
 
 -- A set has one line.
 abbrev pub OneLine : Type 1

@@ -1,5 +1,7 @@
 -- Every statement of specs/Laws.antt, proved, under one roof: other crates take the laws from here. Assumes nothing.
-use Rattle.table.specs.Laws.{FoundNone, FoundFirst, CountsPass, LengthPasses, EntriesPass, FirstTold, TablePasses, BoundsPass, SymbolMeans, GivenMeans, NextMeans}
+use mathlib.Core.Path.{refl}
+use Rattle.table.specs.Refusals.{told}
+use Rattle.table.specs.Laws.{FoundNone, FoundFirst, CountsPass, LengthPasses, EntriesPass, FirstTold, TablePasses, BoundsPass, SymbolMeans, GivenMeans, NextMeans, EventTold}
 use Rattle.table.proofs.First
 use Rattle.table.proofs.Passing
 use Rattle.table.proofs.Rows
@@ -56,3 +58,8 @@ given-means = Symbols.given-means
 
 pub next-means : NextMeans
 next-means = Bytes.next-means
+
+-- The refusals.
+pub event-told : EventTold
+unfolding told
+event-told index = refl

@@ -15,7 +15,8 @@ use Rattle.table.specs.Tests.{counts-test, length-test, entries-test, bo
 use Rattle.table.specs.declared.answer.Symbol.{Symbol}
 use Rattle.table.specs.declared.answer.Symbol.the-variants.{Input, Output, Invalid}
 use Rattle.table.specs.declared.answer.Next.the-variants.{State, Nowhere}
-use Rattle.table.specs.declared.answer.Refusal.the-variants.{Entry}
+use Rattle.table.specs.Refusals.{told-at, told}
+use Rattle.table.specs.declared.answer.Refusal.the-variants.{Entry, Event}
 use Rattle.table.specs.declared.answer.Test.the-variants.{Passed, Refused}
 
 -- THE FIRST
@@ -102,3 +103,9 @@ NextMeans =
     (T : Table) (s k : ℕ)
     → ((t : ℕ) → next-of (T .rows) (T .inputs) (T .outputs) s k ≡ State t ↔ (entry T s k ≡ some t))
     × (next-of (T .rows) (T .inputs) (T .outputs) s k ≡ Nowhere ↔ (entry T s k ≡ none))
+
+-- THE REFUSALS
+
+-- With 7 is told the event index.
+abbrev pub EventTold : Type 0
+EventTold = (index : ℕ) → told (Event index) ≡ told-at 7 index
