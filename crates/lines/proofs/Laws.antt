@@ -1,0 +1,1 @@
+-- Every statement of specs/Laws.antt, proved. Assumes nothing.

@@ -1,0 +1,4 @@
+pub mod Laws
+mod Numbers
+mod Building
+mod Built

@@ -1,0 +1,1 @@
+-- What is shown of the lines, each under one sentence. proofs/Laws.antt proves them all. Assumes nothing.

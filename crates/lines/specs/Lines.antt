@@ -1,0 +1,69 @@
+-- Document 01, "Small cases": the lines of a listing, byte by byte. Assumes nothing.
+use mathlib.Core.Bool.{cond}
+use mathlib.Core.List.{List, [], _∷_, _++_}
+use Prim.Native.Nat.{ℕ, _+_, _-_, _*_}
+use lib.Dec.{eqb, ltb}
+use lib.ListN.{getD}
+use Rattle.table.specs.declared.answer.Told.{Told}
+use Rattle.monitor.specs.declared.session.Flag.{Flag}
+use Rattle.monitor.specs.declared.session.Flag.the-variants as flag
+use Rattle.lines.specs.Texts.{decimal, hexadecimal}
+
+-- One space between fields;
+abbrev pub space : ℕ
+space = 32
+
+-- every line, the last too, ends with one line feed.
+abbrev pub line-feed : ℕ
+line-feed = 10
+
+abbrev pub dash : ℕ
+dash = 45
+
+-- i or o with the symbol;
+abbrev pub symbol : ℕ → List ℕ
+symbol b = cond (ltb b 128) (105 ∷ decimal b) (111 ∷ decimal (b - 128))
+
+-- The number that four of a run's twelve bytes are, least byte first; and that of the first eight.
+abbrev pub four : List ℕ → ℕ → ℕ
+four twelve at = getD twelve at 0 + 256 * (getD twelve (at + 1) 0 + 256 * (getD twelve (at + 2) 0 + 256 * getD twelve (at + 3) 0))
+
+abbrev pub states-in : List ℕ → ℕ
+states-in twelve = four twelve 0 + 4294967296 * four twelve 4
+
+-- least and most, a dash for the pair when the set is empty: there is no state then.
+abbrev pub pair : ℕ → ℕ → ℕ → List ℕ
+pair states least most = cond (eqb states 0) (dash ∷ []) (decimal least ++ (dash ∷ decimal most))
+
+-- Fields: event index; i or o with the symbol; plausible states as 16 lower-case hexadecimal digits; least and most waiting; least and
+-- most run.
+unfoldable pub event-line : ℕ → ℕ → List ℕ → List ℕ
+event-line k b twelve =
+    decimal k ++ (space ∷ symbol b) ++ (space ∷ hexadecimal (states-in twelve))
+    ++ (space ∷ pair (states-in twelve) (getD twelve 8 0) (getD twelve 9 0))
+    ++ (space ∷ pair (states-in twelve) (getD twelve 10 0) (getD twelve 11 0))
+    ++ (line-feed ∷ [])
+
+-- "consistent", "flagged", "refused"
+abbrev pub consistent : List ℕ
+consistent = 99 ∷ 111 ∷ 110 ∷ 115 ∷ 105 ∷ 115 ∷ 116 ∷ 101 ∷ 110 ∷ 116 ∷ []
+
+abbrev pub flagged : List ℕ
+flagged = 102 ∷ 108 ∷ 97 ∷ 103 ∷ 103 ∷ 101 ∷ 100 ∷ []
+
+abbrev pub refused : List ℕ
+refused = 114 ∷ 101 ∷ 102 ∷ 117 ∷ 115 ∷ 101 ∷ 100 ∷ []
+
+-- The last line: the flag's place, or, with no flag, `consistent`.
+unfoldable pub last-line : Flag → List ℕ
+last-line flag.None = consistent ++ (line-feed ∷ [])
+last-line (flag.At place) = flagged ++ (space ∷ decimal place) ++ (line-feed ∷ [])
+
+-- The second place, which only number 4 has: row then column.
+abbrev pub second-place : ℕ → ℕ → List ℕ
+second-place number second = cond (eqb number 4) (space ∷ decimal second) []
+
+-- A refused file prints only `refused`, the number and the place (for 4, row then column).
+unfoldable pub refused-line : Told → List ℕ
+refused-line t =
+    refused ++ (space ∷ decimal (t .number)) ++ (space ∷ decimal (t .place)) ++ second-place (t .number) (t .second) ++ (line-feed ∷ [])
