@@ -1,0 +1,83 @@
+// What is to be said of a file: why it is refused, or what a run over its trace found.
+use house::Contents;
+use house::Reading;
+use house::Refusal;
+use house::Source;
+use monitor::run;
+use monitor::session::Flag;
+use table::Test;
+ghost use mathlib.Core.Path.{_≡_};
+ghost use lib.ListN.{length};
+
+// The most bytes of rows, events and results that a house file gives.
+const ROW_ROOM: usize = 2048;
+
+const EVENT_ROOM: usize = 4096;
+
+const RESULT_ROOM: usize = 49152;
+
+pub(crate) fn event_room() -> [u8; EVENT_ROOM]
+    ensures { λ r. ⌜ 4096 ≡ length r ⌝ }
+{
+    [0; EVENT_ROOM]
+}
+
+pub(crate) fn result_room() -> [u8; RESULT_ROOM]
+    ensures { λ r. ⌜ 49152 ≡ length r ⌝ }
+{
+    [0; RESULT_ROOM]
+}
+
+pub(crate) enum Judged {
+    Refused(Refusal),
+    // How many events there are, and the flag.
+    Ran(usize, Flag),
+}
+
+// The first n bytes, or all if there are fewer.
+pub(crate) fn front(bytes: &[u8], n: usize) -> &[u8] {
+    if n <= bytes.len() {
+        return &bytes[..n];
+    }
+    bytes
+}
+
+fn follow<'a>(c: Contents, rows: &'a [u8], events: &'a [u8], results: &mut [u8]) -> Judged {
+    let ran = run::run(
+        rows,
+        c.states as usize,
+        c.inputs as usize,
+        c.outputs as usize,
+        c.waiting as usize,
+        c.losses as usize,
+        front(events, c.events),
+        results,
+    );
+    let test = ran.test;
+    let flag = ran.flag;
+    match test {
+        Test::Refused(r) => Judged::Refused(Refusal::Content(r)),
+        Test::Passed => Judged::Ran(c.events, flag),
+    }
+}
+
+fn follow_source<'a>(c: Contents, rows: &'a [u8], events: &'a [u8], results: &mut [u8]) -> Judged {
+    let source = c.source;
+    match source {
+        Source::Rows => follow(c, front(rows, c.rows), events, results),
+        Source::Standard => {
+            let all = standard::rows();
+            follow(c, &all, events, results)
+        }
+    }
+}
+
+// Reads the file, and runs its trace; the events and the run's results go into the buffers.
+pub(crate) fn judge(file: &[u8], events: &mut [u8], results: &mut [u8]) -> Judged {
+    let mut rows = [0u8; ROW_ROOM];
+    let reading = house::read(file, &mut rows, &mut *events);
+    match reading {
+        Reading::Refused(r) => Judged::Refused(r),
+        Reading::Good(c) => follow_source(c, &rows, &*events, &mut *results),
+    }
+}
