@@ -1,0 +1,47 @@
+# For shell commands to source: builds a program of this repository, and runs it as the Rattle kit does. Programs are for x86-64; on
+# another processor they run under the kit's emulator.
+
+kit_root=$(cd "$(dirname "${BASH_SOURCE[0]}")/.." && pwd -P)
+
+# Sets kit_tools to the kit's tools for this machine; fails with a word of advice where there is no kit.
+kit_find() {
+  local rt
+  if ! rt=$(command -v rt); then
+    echo "The command rt is missing: install the Rattle kit, and put rt on the PATH." >&2
+    return 1
+  fi
+  rt=$(readlink -f "$rt")
+  kit_tools=${RATTLE_HOME:-$(dirname "$(dirname "$rt")")}/on/$(uname -m)/toolchain
+  if [ ! -d "$kit_tools" ]; then
+    echo "The Rattle kit has nothing for this machine, $(uname -m)." >&2
+    return 1
+  fi
+}
+
+# Proves and compiles the program NAME, unless it is newer than everything that it is made of.
+kit_build() { # NAME
+  local program=$kit_root/target/bin/$1 log
+  if [ -x "$program" ] && [ -z "$(find "$kit_root/crates" "$kit_root/crates.txt" -newer "$program" -type f -print -quit)" ]; then
+    return 0
+  fi
+  echo "Proving and compiling the program $1: this is done once, and takes some minutes." >&2
+  log=$(mktemp)
+  if ! (cd "$kit_root" && rt check "$1") >"$log" 2>&1; then
+    tail -n 20 "$log" >&2
+    rm -f "$log"
+    echo "The program $1 could not be built." >&2
+    return 1
+  fi
+  rm -f "$log"
+}
+
+# Runs the program NAME with these words.
+kit_run() { # NAME [WORD...]
+  local program=$kit_root/target/bin/$1 emulator=$kit_tools/bin/qemu-x86_64
+  shift
+  if [ -x "$emulator" ]; then
+    "$emulator" "$kit_tools/lib/ld-linux-x86-64.so.2" --library-path "$kit_tools/lib" "$program" "$@"
+  else
+    "$kit_tools/lib/ld-linux-x86-64.so.2" --library-path "$kit_tools/lib" "$program" "$@"
+  fi
+}
