@@ -8,7 +8,7 @@ use lib.Seq.{take-append-seam, drop-append-seam}
 use Rattle.house.specs.File.{rows-of, events-of, contents-of, front}
 use Rattle.table.proofs.Checks.{clash}
 use Rattle.house.specs.Reading.{verdict, after, Answers}
-use Rattle.house.specs.Laws.{BlockPasses, FirstStray, FormPasses, FirstBad, OneReading, NothingWritten, Starts, WhatIsHeld, GoodRows, ReadExactly, WhatIsGood, RowsUntouched}
+use Rattle.house.specs.Laws.{BlockPasses, FirstStray, FormPasses, FirstBad, OneReading, NothingWritten, Starts, WhatIsHeld, GoodRows, ReadExactly, CountsHeld, WhatIsGood, RowsUntouched}
 use Rattle.house.specs.declared.answer.Contents.{Contents}
 use Rattle.house.specs.declared.answer.Reading.the-variants.{Good}
 use Rattle.house.specs.declared.answer.Source.{Source}
@@ -87,3 +87,7 @@ rows-untouched s d e c d′ e′ x h =
     let g = what-is-good s d e c d′ e′ x in
     let n = no-rows (c .source) (c .states) (c .inputs) (c .outputs) (rows-of s) h (g .rows) in
     x .rows ∙ ap (front d) n
+
+pub counts-held : CountsHeld
+unfolding contents-of
+counts-held s = (refl, refl)

@@ -96,6 +96,10 @@ ReadExactly =
     (s : List ℕ) (a b : ℕ)
     → verdict s a b ≡ Passed ↔ (GoodFile s (contents-of s) × (length (rows-of s) ≤ a) × (length (events-of s) ≤ b))
 
+-- The numbers of row bytes and of events that a file's contents tell are those that it holds.
+abbrev pub CountsHeld : Type 0
+CountsHeld = (s : List ℕ) → (contents-of s .rows ≡ length (rows-of s)) × (contents-of s .events ≡ length (events-of s))
+
 -- So what was read came from a good file.
 abbrev pub WhatIsGood : Type 0
 WhatIsGood = (s d e : List ℕ) (c : Contents) (d′ e′ : List ℕ) → Answers s d e (Good c) d′ e′ → GoodFile s c

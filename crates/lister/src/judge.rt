@@ -7,7 +7,8 @@ use monitor::run;
 use monitor::session::Flag;
 use table::Test;
 ghost use mathlib.Core.Path.{_≡_};
-ghost use lib.ListN.{length};
+ghost use lib.ListN.{length, take};
+ghost use Rattle.lister.specs.Judging.{rows-meant, Follows, Judges};
 
 // The most bytes of rows, events and results that a house file gives.
 const ROW_ROOM: usize = 2048;
@@ -35,14 +36,18 @@ pub(crate) enum Judged {
 }
 
 // The first n bytes, or all if there are fewer.
-pub(crate) fn front(bytes: &[u8], n: usize) -> &[u8] {
+pub(crate) fn front(bytes: &[u8], n: usize) -> &[u8]
+    ensures { λ r. ⌜ now r ≡ take n (now (bytes .entry)) ⌝ }
+{
     if n <= bytes.len() {
         return &bytes[..n];
     }
     bytes
 }
 
-fn follow<'a>(c: Contents, rows: &'a [u8], events: &'a [u8], results: &mut [u8]) -> Judged {
+fn follow<'a>(c: Contents, rows: &'a [u8], events: &'a [u8], results: &mut [u8]) -> Judged
+    ensures { λ r. ⌜ Follows c (now (rows .entry)) (take (c .events) (now (events .entry))) (now (results .entry)) r (now (results .exit)) ⌝ }
+{
     let ran = run::run(
         rows,
         c.states as usize,
@@ -61,7 +66,9 @@ fn follow<'a>(c: Contents, rows: &'a [u8], events: &'a [u8], results: &mut [u8])
     }
 }
 
-fn follow_source<'a>(c: Contents, rows: &'a [u8], events: &'a [u8], results: &mut [u8]) -> Judged {
+fn follow_source<'a>(c: Contents, rows: &'a [u8], events: &'a [u8], results: &mut [u8]) -> Judged
+    ensures { λ r. ⌜ Follows c (rows-meant (c .source) (take (c .rows) (now (rows .entry)))) (take (c .events) (now (events .entry))) (now (results .entry)) r (now (results .exit)) ⌝ }
+{
     let source = c.source;
     match source {
         Source::Rows => follow(c, front(rows, c.rows), events, results),
@@ -73,7 +80,9 @@ fn follow_source<'a>(c: Contents, rows: &'a [u8], events: &'a [u8], results: &mu
 }
 
 // Reads the file, and runs its trace; the events and the run's results go into the buffers.
-pub(crate) fn judge(file: &[u8], events: &mut [u8], results: &mut [u8]) -> Judged {
+pub(crate) fn judge(file: &[u8], events: &mut [u8], results: &mut [u8]) -> Judged
+    ensures { λ r. ⌜ Judges (now (file .entry)) (now (events .entry)) (now (results .entry)) r (now (events .exit)) (now (results .exit)) ⌝ }
+{
     let mut rows = [0u8; ROW_ROOM];
     let reading = house::read(file, &mut rows, &mut *events);
     match reading {

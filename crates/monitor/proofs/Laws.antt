@@ -1,6 +1,6 @@
 -- Every statement of specs/Laws.antt and specs/RunLaws.antt, proved, under one roof: other crates take the laws from here. Assumes nothing.
 use Rattle.monitor.specs.Laws.{OpeningPasses, OpenedSound, ZerosUnsound, OneFeed, NotRefused, FedSound, PlausibleAfterFeeding, SessionsAllowMore}
-use Rattle.monitor.specs.RunLaws.{EventsPass, FirstInvalid, OneLine, OneRun, RunsAsFed, RunsAllowMore}
+use Rattle.monitor.specs.RunLaws.{EventsPass, FirstInvalid, RunPasses, RoomDecides, OneLine, OneRun, RunsAsFed, RunsAllowMore}
 use Rattle.monitor.proofs.Openings
 use Rattle.monitor.proofs.Opened
 use Rattle.monitor.proofs.Sessions
@@ -40,6 +40,12 @@ events-pass = Traces.events-pass
 
 pub first-invalid : FirstInvalid
 first-invalid = Traces.first-invalid
+
+pub run-passes : RunPasses
+run-passes = Traces.run-passes
+
+pub room-decides : RoomDecides
+room-decides = Traces.room-decides
 
 pub one-line : OneLine
 one-line = Whole.one-line

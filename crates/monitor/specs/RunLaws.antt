@@ -3,11 +3,13 @@ use mathlib.Core.Path.{_≡_}
 use mathlib.Core.Bool.{true, false}
 use mathlib.Core.List.{List}
 use mathlib.Core.Logic.{_↔_}
-use Prim.Native.Nat.{ℕ, suc, _*_, _<_}
-use lib.ListN.{length, take as first}
+use Prim.Native.Nat.{ℕ, suc, _*_, _≤_, _<_}
+use lib.ListN.{length, getD, take as first}
+use Rattle.model.specs.Limits.{most-events}
 use Rattle.model.specs.Model.{events, Config, Set}
 use Rattle.model.specs.Demands.{Slack, Later}
-use Rattle.table.specs.Bytes.{table-of}
+use Rattle.table.specs.Bytes.{table-of, symbol-of}
+use Rattle.table.specs.declared.answer.Symbol.the-variants.{Invalid}
 use Rattle.table.specs.declared.answer.Refusal.the-variants.{Event}
 use Rattle.table.specs.declared.answer.Test.the-variants.{Passed, Refused}
 use Rattle.states.specs.In.{In}
@@ -17,7 +19,7 @@ use Rattle.monitor.specs.declared.run.Ran.{Ran}
 use Rattle.monitor.specs.Sets.{Holds}
 use Rattle.monitor.specs.Open.{opening, begun}
 use Rattle.monitor.specs.Laws.{place-of, FedAll}
-use Rattle.monitor.specs.Run.{invalid-at, events-test, Line, At, RunTo, Runs}
+use Rattle.monitor.specs.Run.{invalid-at, events-test, buffer-test, run-test, Line, At, RunTo, Runs}
 
 -- THE EVENTS
 
@@ -33,7 +35,24 @@ FirstInvalid =
     → events-test trace i o ≡ Refused (Event k)
     ↔ ((k < length trace) × (invalid-at trace i o k ≡ true) × ((j : ℕ) → j < k → invalid-at trace i o j ≡ false))
 
+-- A trace that a run takes under a table's counts: no longer than the limit, and of valid events.
+pub record GoodTrace (trace : List ℕ) (i o : ℕ) : Type 0 where
+  pub few : length trace ≤ most-events
+  pub valid : (k : ℕ) → k < length trace → symbol-of (getD trace k 0) i o ≡ Invalid → ⊥
+
 -- THE RUN
+
+-- A run is refused exactly when its opening would be, its trace is not good, or its buffer is too short.
+abbrev pub RunPasses : Type 0
+RunPasses =
+    (rows : List ℕ) (s i o B c : ℕ) (trace : List ℕ) (room : ℕ)
+    → run-test rows s i o B c trace room ≡ Passed ↔ ((opening rows s i o B c ≡ Passed) × GoodTrace trace i o × (12 * length trace ≤ room))
+
+-- Where all else is good, only the buffer decides.
+abbrev pub RoomDecides : Type 0
+RoomDecides =
+    (rows : List ℕ) (s i o B c : ℕ) (trace : List ℕ) (room : ℕ) → opening rows s i o B c ≡ Passed → GoodTrace trace i o
+    → run-test rows s i o B c trace room ≡ buffer-test (length trace) room
 
 -- A set has one line.
 abbrev pub OneLine : Type 1

@@ -1,5 +1,5 @@
 use mathlib.Core.Path.{sym}
-use lib.Seq.{length-take-le}
+use lib.Seq.{length-take-le, take-all}
 use native.Mathlib.Omega.{arith}
 use borrow.Author.Needs.{needs}
 use Rattle.lister.proofs.judge.front.Statement.{statement}
@@ -17,7 +17,7 @@ returns c = search needs
 
 -- src/judge.rt:38:1
 returns-2 : tie.Need-returns-2
-returns-2 c = search needs
+returns-2 c = sym (take-all (c .before .args .n) (c .before .args .bytes .now) (omega arith))
 
 pub front-spec : {M : Type 1} → statement M
 front-spec = tie.close (tie.spec slice-aggregate-result returns returns-2)
