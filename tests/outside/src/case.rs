@@ -62,15 +62,23 @@ impl Case {
                 Answer::Session { told: told(refusal), session }
             }
             Case::Run { offered, trace, room } => Answer::Run(run::run(offered, trace, *room, wrong)),
-            Case::Read { file, row_room, event_room } => {
-                Answer::Read(house::read(file, *row_room, *event_room, wrong))
-            }
+            Case::Read { file, row_room, event_room } => Answer::Read(house::read(file, *row_room, *event_room, wrong)),
             Case::List { file } => Answer::List(listing::list(file, wrong)),
         }
     }
 }
 
 impl Answer {
+    /// Whether a box is flagged that was not refused.
+    pub fn flagged(&self) -> bool {
+        match self {
+            Answer::Session { session, .. } => session.flag.is_some(),
+            Answer::Run(ran) => ran.told[3] > 0,
+            Answer::Read(_) => false,
+            Answer::List(listed) => listed.outcome == listing::FLAGGED,
+        }
+    }
+
     /// The number told, 0 if the case was not refused.
     pub fn number(&self) -> u64 {
         match self {

@@ -10,13 +10,12 @@ use crate::run::Ran;
 use crate::session::{Session, BYTES, WORDS};
 use crate::wrong::Wrong;
 use std::io::{self, Read, Write};
+use std::os::unix::process::CommandExt;
 use std::process::{Child, Command, ExitStatus, Stdio};
 use std::sync::mpsc::{channel, Receiver, RecvTimeoutError, Sender};
 use std::sync::Arc;
 use std::thread;
 use std::time::{Duration, Instant};
-
-const PATIENCE: Duration = Duration::from_secs(60);
 
 /// No text is longer than this; a longer length is an answer out of step.
 const MOST_TEXT: u64 = 1 << 24;
@@ -108,9 +107,7 @@ fn get_offered(from: &mut dyn Read) -> io::Result<Offered> {
 /// Reads the answer to a case.
 fn get_answer(case: &Case, from: &mut dyn Read) -> io::Result<Answer> {
     Ok(match case {
-        Case::Open { .. } | Case::Feed { .. } => {
-            Answer::Session { told: get_told(from)?, session: get_session(from)? }
-        }
+        Case::Open { .. } | Case::Feed { .. } => Answer::Session { told: get_told(from)?, session: get_session(from)? },
         Case::Run { room, .. } => Answer::Run(Ran { told: get_told(from)?, out: get_bytes(from, *room)? }),
         Case::Read { row_room, event_room, .. } => Answer::Read(Answered {
             told: get_told(from)?,
@@ -128,17 +125,26 @@ fn get_answer(case: &Case, from: &mut dyn Read) -> io::Result<Answer> {
     })
 }
 
+/// Why there is no answer, and whether the driver still runs without giving one.
+#[derive(Debug, PartialEq)]
+pub struct Lost {
+    pub why: String,
+    pub hangs: bool,
+}
+
 /// A driver at work. Dropping it ends its process.
 pub struct Driver {
     process: Child,
+    patience: Duration,
     requests: Option<Sender<Arc<Vec<Case>>>>,
     answers: Incoming,
 }
 
 impl Driver {
-    pub fn start(path: &str, arguments: &[String]) -> io::Result<Driver> {
+    pub fn start(path: &str, arguments: &[String], patience: Duration) -> io::Result<Driver> {
+        // A group of its own: the driver may be a script, and what it starts must end with it.
         let mut process =
-            Command::new(path).args(arguments).stdin(Stdio::piped()).stdout(Stdio::piped()).spawn()?;
+            Command::new(path).args(arguments).stdin(Stdio::piped()).stdout(Stdio::piped()).process_group(0).spawn()?;
         let mut input = process.stdin.take().ok_or(io::ErrorKind::BrokenPipe)?;
         let mut output = process.stdout.take().ok_or(io::ErrorKind::BrokenPipe)?;
         let (requests, to_send) = channel::<Arc<Vec<Case>>>();
@@ -166,8 +172,8 @@ impl Driver {
                 }
             }
         });
-        let answers = Incoming { chunks, at: Vec::new(), used: 0 };
-        Ok(Driver { process, requests: Some(requests), answers })
+        let answers = Incoming { chunks, patience, at: Vec::new(), used: 0 };
+        Ok(Driver { process, patience, requests: Some(requests), answers })
     }
 
     /// Hands over a batch of cases. It returns at once, even if the driver does not listen.
@@ -179,11 +185,13 @@ impl Driver {
     }
 
     /// The answer to the next case, in the order in which the cases were sent.
-    pub fn answer(&mut self, case: &Case) -> Result<Answer, String> {
+    pub fn answer(&mut self, case: &Case) -> Result<Answer, Lost> {
         get_answer(case, &mut self.answers).map_err(|error| match error.kind() {
-            io::ErrorKind::TimedOut => String::from("no answer for a minute"),
-            io::ErrorKind::UnexpectedEof => String::from("the driver ended before its answer did"),
-            _ => error.to_string(),
+            io::ErrorKind::TimedOut => Lost { why: format!("no answer for {:?}", self.patience), hangs: true },
+            io::ErrorKind::UnexpectedEof => {
+                Lost { why: String::from("the driver ended before its answer did"), hangs: false }
+            }
+            _ => Lost { why: error.to_string(), hangs: false },
         })
     }
 
@@ -206,7 +214,7 @@ impl Driver {
 
     fn ended(&mut self) -> Result<ExitStatus, String> {
         let begun = Instant::now();
-        while begun.elapsed() < PATIENCE {
+        while begun.elapsed() < self.patience {
             match self.process.try_wait() {
                 Ok(Some(status)) => return Ok(status),
                 Ok(None) => thread::sleep(Duration::from_millis(10)),
@@ -219,7 +227,12 @@ impl Driver {
 
 impl Drop for Driver {
     fn drop(&mut self) {
-        // A driver that has ended already cannot be ended; that is no fault.
+        if let Ok(Some(_)) = self.process.try_wait() {
+            return;
+        }
+        // The group may have ended in between; then there is nothing to end, and that is no fault.
+        let group = format!("-{}", self.process.id());
+        let _ = Command::new("kill").args(["-KILL", "--", &group]).stderr(Stdio::null()).status();
         let _ = self.process.kill();
         let _ = self.process.wait();
     }
@@ -228,6 +241,7 @@ impl Drop for Driver {
 /// What the reader thread has gathered.
 struct Incoming {
     chunks: Receiver<Vec<u8>>,
+    patience: Duration,
     at: Vec<u8>,
     used: usize,
 }
@@ -235,7 +249,7 @@ struct Incoming {
 impl Read for Incoming {
     fn read(&mut self, into: &mut [u8]) -> io::Result<usize> {
         if self.used == self.at.len() {
-            match self.chunks.recv_timeout(PATIENCE) {
+            match self.chunks.recv_timeout(self.patience) {
                 Ok(chunk) => {
                     self.at = chunk;
                     self.used = 0;
@@ -273,11 +287,7 @@ fn get_case(operation: u64, from: &mut dyn Read) -> io::Result<Case> {
         1 => Case::Open { offered: get_offered(from)? },
         2 => Case::Feed { session: get_session(from)?, event: get(from)? as u8 },
         3 => Case::Run { offered: get_offered(from)?, trace: get_counted(from)?, room: get(from)? as usize },
-        4 => Case::Read {
-            file: get_counted(from)?,
-            row_room: get(from)? as usize,
-            event_room: get(from)? as usize,
-        },
+        4 => Case::Read { file: get_counted(from)?, row_room: get(from)? as usize, event_room: get(from)? as usize },
         5 => Case::List { file: get_counted(from)? },
         _ => return Err(io::Error::new(io::ErrorKind::InvalidData, format!("operation {operation}"))),
     })
@@ -307,4 +317,39 @@ fn reply(answer: &Answer) -> Vec<u8> {
         }
     }
     bytes
+}
+
+#[cfg(test)]
+mod tests {
+    use super::*;
+    use crate::generate;
+
+    /// The first case's answer from a program that is no driver.
+    fn asked(path: &str, arguments: &[&str]) -> Result<Answer, Lost> {
+        let arguments: Vec<String> = arguments.iter().map(|argument| argument.to_string()).collect();
+        let mut driver = Driver::start(path, &arguments, Duration::from_millis(500)).expect("a program");
+        let cases = Arc::new(vec![Case::List { file: vec![0; 512] }; 1000]);
+        driver.send(cases.clone());
+        driver.answer(&cases[0])
+    }
+
+    #[test]
+    fn drivers_that_end_answer_short_or_hang_are_told() {
+        assert_eq!(asked("false", &[]).map_err(|lost| lost.hangs), Err(false));
+        assert_eq!(asked("printf", &["%20s", ""]).map_err(|lost| lost.hangs), Err(false));
+        assert_eq!(asked("sleep", &["3"]).map_err(|lost| lost.hangs), Err(true));
+    }
+
+    #[test]
+    fn what_is_sent_is_what_is_read() {
+        for case in generate::batch(3, 0) {
+            let mut bytes = &request(&case)[..];
+            let operation = get(&mut bytes).expect("an operation");
+            let read = get_case(operation, &mut bytes).expect("a case");
+            assert!(bytes.is_empty());
+            let answer = case.answer(Wrong::Nothing);
+            assert!(read.answer(Wrong::Nothing) == answer);
+            assert!(get_answer(&case, &mut &reply(&answer)[..]).expect("an answer") == answer);
+        }
+    }
 }

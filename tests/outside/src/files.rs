@@ -2,7 +2,9 @@
 //! length, or listed.
 
 use crate::case::Case;
-use crate::house::{self, block, header, repair, written, Content, BLOCK, CHECK_AT, EVENTS, MODULUS, PAYLOAD, PAYLOAD_AT, ROWS};
+use crate::house::{
+    self, block, header, repair, written, Content, BLOCK, CHECK_AT, EVENTS, MODULUS, PAYLOAD, PAYLOAD_AT, ROWS,
+};
 use crate::model::Bounds;
 use crate::random::Random;
 use crate::tables;
@@ -95,7 +97,7 @@ fn damage_file(random: &mut Random, file: &mut Vec<u8>) {
             let place = random.below(file.len());
             file[place] = file[place].wrapping_add(random.between(1, 255) as u8);
         }
-        1 | 2 | 3 => {
+        1..=3 => {
             // A byte of the block's head, of its payload or of its fill changes, and the check with it.
             let (anywhere, anything) = (random.below(CHECK_AT), random.byte());
             let place = start + random.pick(&[0, 1, 2, 3, 4, 5, 6, 7, 8, 9, 10, 11, 12, 509, anywhere]);
@@ -155,11 +157,11 @@ fn renumber(file: &mut [u8]) {
 fn rooms(random: &mut Random, file: &[u8]) -> (usize, usize) {
     let told = house::read(file, 8192, 8192, crate::wrong::Wrong::Nothing).told;
     let (rows, events) = (told[9] as usize, told[10] as usize);
-    let room = |random: &mut Random, needed: usize| match random.below(6) {
+    let room = |random: &mut Random, needed: usize| match random.below(12) {
         0 => needed.saturating_sub(1),
         1 => needed.saturating_sub(random.below(needed + 1)),
-        2 => needed + 1,
-        3 => needed + random.below(100),
+        2 | 3 => needed + 1,
+        4..=7 => needed + random.below(100),
         _ => needed,
     };
     (room(random, rows), room(random, events))
@@ -275,7 +277,10 @@ fn content_edges() -> Vec<Vec<u8>> {
 fn length_edges() -> Vec<Vec<u8>> {
     let right = written(&small(vec![0, 0]));
     let mut files: Vec<Vec<u8>> = Vec::new();
-    for length in [0, 1, 2, 510, 511, 512, 513, 1023, 1024, 1025, 1535, 1537, 7167, 7168, 7679, 7680, 7681, 8191, 8192, 8193, 20_000] {
+    for length in [
+        0, 1, 2, 510, 511, 512, 513, 1023, 1024, 1025, 1535, 1537, 7167, 7168, 7679, 7680, 7681, 8191, 8192, 8193,
+        20_000,
+    ] {
         let mut file = right.clone();
         file.resize(length, 0);
         files.push(file);
@@ -312,7 +317,11 @@ fn check_edges() -> Vec<Vec<u8>> {
 fn remainder_edges() -> Vec<Vec<u8>> {
     let mut files = Vec::new();
     for wanted in [0, 1, 14, 15, MODULUS - 1] {
-        let mut content = content_of(&tables::scattered(&mut Random::new(wanted), 1, 16, 16, 100), Bounds { waiting: 2, losses: 1 }, vec![15; 400]);
+        let mut content = content_of(
+            &tables::scattered(&mut Random::new(wanted), 1, 16, 16, 100),
+            Bounds { waiting: 2, losses: 1 },
+            vec![15; 400],
+        );
         let mut seed = Random::new(wanted);
         let file = loop {
             for _ in 0..20 {
@@ -420,7 +429,8 @@ fn order_edges() -> Vec<Vec<u8>> {
 
 /// As many events and as many blocks as there may be, and one more.
 fn most_edges() -> Vec<Vec<u8>> {
-    let alternating = |length: usize| (0..length).map(|event| if event % 2 == 0 { 0 } else { 128 }).collect::<Vec<u8>>();
+    let alternating =
+        |length: usize| (0..length).map(|event| if event % 2 == 0 { 0 } else { 128 }).collect::<Vec<u8>>();
     let mut files = Vec::new();
     for length in [4095, 4096, 4097, 4536] {
         files.push(written(&small(alternating(length))));

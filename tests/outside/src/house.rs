@@ -149,7 +149,7 @@ pub fn fitted(file: &[u8], row_room: usize, event_room: usize, wrong: Wrong) -> 
 /// All tests but 10.
 fn content(file: &[u8], wrong: Wrong) -> Result<Content, Refused> {
     let most = if wrong == Wrong::BlocksSixteen { MOST_BLOCKS + 1 } else { MOST_BLOCKS };
-    if file.is_empty() || file.len() % BLOCK != 0 || file.len() > BLOCK * most {
+    if file.is_empty() || !file.len().is_multiple_of(BLOCK) || file.len() > BLOCK * most {
         return Err((Refusal { number: 11, place: file.len() as u64, second: 0 }, None));
     }
     let blocks: Vec<&[u8]> = file.chunks(BLOCK).collect();
@@ -210,15 +210,15 @@ fn formed(block: &[u8], number: usize, before: Option<&[u8]>, wrong: Wrong) -> b
     let number_right = two(block, 2) == number as u64 || wrong == Wrong::NumberOverlooked;
     let used = used(block);
     let used_right = match number {
-        0 => used == 6 || (wrong == Wrong::UsedUpToPayload && 6 <= used && used <= PAYLOAD),
-        _ => 1 <= used && used <= PAYLOAD,
+        0 => used == 6 || (wrong == Wrong::UsedUpToPayload && (6..=PAYLOAD).contains(&used)),
+        _ => (1..=PAYLOAD).contains(&used),
     };
     if !(kind_right && second_right && number_right && used_right) {
         return false;
     }
     let source_right = number > 0 || block[PAYLOAD_AT + 5] <= 1;
     let fill_right = block[PAYLOAD_AT + used..CHECK_AT].iter().all(|byte| *byte == 0) || wrong == Wrong::FillOverlooked;
-    source_right && fill_right && before.map_or(true, |before| ordered(before, block, wrong))
+    source_right && fill_right && before.is_none_or(|before| ordered(before, block, wrong))
 }
 
 /// Rows never follow events, and no block follows one of its own kind that is not full.

@@ -23,14 +23,15 @@ mod worked;
 mod wrong;
 
 use case::{Case, FUNCTIONS};
-use compare::{Start, Tally};
+use compare::{Counts, Start, Tally};
 use std::process::ExitCode;
-use std::time::Instant;
+use std::time::{Duration, Instant};
 use wrong::Wrong;
 
 const USAGE: &str = "outside --driver PATH | --self [--as WRONG]   compare the driver at PATH, or this package itself
   --seed N    another seed
-  --soak N    N times as many random cases, and a full run of 1,048,576 events
+  --soak N    N times as many random cases
+  --full      a run of 1,048,576 events too, and ten minutes for it
   --case N    one case only, told in full
 outside --serve [WRONG]                       be a driver";
 
@@ -42,6 +43,7 @@ const WRONG_BATCHES: u64 = 3;
 struct Asked {
     seed: u64,
     soak: u64,
+    full: bool,
     case: Option<usize>,
     start: Start,
 }
@@ -66,12 +68,17 @@ fn main() -> ExitCode {
 }
 
 fn asked(arguments: &[String]) -> Option<Asked> {
-    let mut asked = Asked { seed: 1, soak: 1, case: None, start: Start { path: String::new(), arguments: Vec::new() } };
+    let start = Start { path: String::new(), arguments: Vec::new(), patience: Duration::from_secs(60) };
+    let mut asked = Asked { seed: 1, soak: 1, full: false, case: None, start };
     let mut rest = arguments.iter();
     while let Some(argument) = rest.next() {
         match argument.as_str() {
             "--seed" => asked.seed = rest.next()?.parse().ok()?,
             "--soak" => asked.soak = rest.next()?.parse().ok()?,
+            "--full" => {
+                asked.full = true;
+                asked.start.patience = Duration::from_secs(600);
+            }
             "--case" => asked.case = Some(rest.next()?.parse().ok()?),
             "--driver" => asked.start.path = rest.next()?.clone(),
             "--self" => {
@@ -93,7 +100,7 @@ fn asked(arguments: &[String]) -> Option<Asked> {
     }
 }
 
-/// The edges in batches, then the random batches, then what only a soak has.
+/// The edges in batches, then the random batches, then the full run if it is wanted.
 fn batches(edges: &[Case], seed: u64, random: u64, full: bool) -> impl Iterator<Item = Vec<Case>> + '_ {
     let last = if full { vec![vec![runs::full_run()]] } else { Vec::new() };
     let systematic = edges.chunks(generate::BATCH).map(|cases| cases.to_vec());
@@ -107,18 +114,18 @@ fn work(asked: &Asked) -> ExitCode {
     println!("{} edges, made in {:.1} s", edges.len(), begun.elapsed().as_secs_f64());
     let (mut passed, mut failed) = (0, 0);
     if let Some(number) = asked.case {
-        let all = batches(&edges, asked.seed, BATCHES * asked.soak, asked.soak > 1).flatten();
+        let all = batches(&edges, asked.seed, BATCHES * asked.soak, asked.full).flatten();
         let only: Vec<Case> = all.skip(number).take(1).collect();
         for case in &only {
             println!("{case:?}");
         }
-        let tally = compare::compare(&asked.start, &mut std::iter::once(only), number);
+        let tally = compare::compare(&asked.start, asked.seed, &mut std::iter::once(only), number);
         passed += tally.passed.iter().sum::<usize>();
         failed += tally.failed;
     } else {
         let begun = Instant::now();
-        let mut all = batches(&edges, asked.seed, BATCHES * asked.soak, asked.soak > 1);
-        let tally = compare::compare(&asked.start, &mut all, 0);
+        let mut all = batches(&edges, asked.seed, BATCHES * asked.soak, asked.full);
+        let tally = compare::compare(&asked.start, asked.seed, &mut all, 0);
         compared(&tally, &mut passed, &mut failed);
         println!("compared in {:.1} s", begun.elapsed().as_secs_f64());
         let begun = Instant::now();
@@ -142,7 +149,12 @@ fn compared(tally: &Tally, passed: &mut usize, failed: &mut usize) {
         let met = |number: &&u64| tally.met.contains(&(function, **number));
         let seen: Vec<String> = numbers.iter().filter(met).map(u64::to_string).collect();
         let missing: Vec<String> = numbers.iter().filter(|number| !met(number)).map(u64::to_string).collect();
-        println!("{name}: {} cases agree; refusals met: {}", tally.passed[function], seen.join(" "));
+        let [rest, flagged, refused] = tally.outcomes[function];
+        println!(
+            "{name}: {} cases agree ({rest} plain, {flagged} flagged, {refused} refused); refusals met: {}",
+            tally.passed[function],
+            seen.join(" ")
+        );
         if !missing.is_empty() {
             println!("FAILED {name}: refusals never met: {}", missing.join(" "));
         }
@@ -153,11 +165,15 @@ fn compared(tally: &Tally, passed: &mut usize, failed: &mut usize) {
 }
 
 /// Tells how many cases told each wrong monitor apart; at least one must.
-fn apart(counts: &[usize], of: usize, passed: &mut usize, failed: &mut usize) {
+fn apart(counts: &[Counts], of: usize, passed: &mut usize, failed: &mut usize) {
     println!("wrong monitors, and how many of {of} cases tell them apart:");
-    for (count, (_, name, does)) in counts.iter().zip(wrong::ALL) {
-        println!("{count:7}  {name}: {does}");
-        if *count > 0 {
+    let names: String = FUNCTIONS.iter().map(|(name, _)| format!("{name:>6}")).collect();
+    println!("   all{names}");
+    for (counts, (_, name, does)) in counts.iter().zip(wrong::ALL) {
+        let all: usize = counts.iter().sum();
+        let each: String = counts.iter().map(|count| format!("{count:6}")).collect();
+        println!("{all:6}{each}  {name}: {does}");
+        if all > 0 {
             *passed += 1;
         } else {
             println!("FAILED {name}: never told apart");

@@ -193,7 +193,8 @@ impl Watch {
     }
 
     fn hold(&mut self, mut line: Vec<u8>, wrong: Wrong) {
-        let most = if wrong == Wrong::HeldForgetsOldest { self.bounds.waiting.saturating_sub(1) } else { self.bounds.waiting };
+        let most =
+            if wrong == Wrong::HeldForgetsOldest { self.bounds.waiting.saturating_sub(1) } else { self.bounds.waiting };
         while line.len() > most {
             line.remove(0);
         }

@@ -4,15 +4,24 @@ use crate::case::{Answer, Case};
 use crate::refusal::Offered;
 use crate::session::Session;
 
-/// Bytes as hexadecimal digits, the first few of many.
+/// Bytes as hexadecimal digits, eight and more equal ones as one with its count; the first few of many.
 fn bytes(bytes: &[u8]) -> String {
-    const SHOWN: usize = 96;
-    let digits: String = bytes.iter().take(SHOWN).map(|byte| format!("{byte:02x}")).collect();
-    if bytes.len() > SHOWN {
-        format!("{digits}... ({} bytes)", bytes.len())
-    } else {
-        digits
+    const SHOWN: usize = 400;
+    let mut digits = String::new();
+    let mut rest = bytes;
+    while let Some(first) = rest.first() {
+        if digits.len() > SHOWN {
+            return format!("{digits}... ({} bytes)", bytes.len());
+        }
+        let equal = rest.iter().take_while(|byte| *byte == first).count();
+        if equal >= 8 {
+            digits += &format!("[{first:02x} times {equal}]");
+        } else {
+            digits += &format!("{first:02x}").repeat(equal);
+        }
+        rest = &rest[equal..];
     }
+    digits
 }
 
 fn offered(offered: &Offered) -> String {

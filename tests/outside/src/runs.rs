@@ -1,7 +1,7 @@
 //! Openings and whole runs: random ones, damaged ones, and a table of edges.
 
 use crate::case::Case;
-use crate::model::{Bounds, Table, MOST_SYMBOLS};
+use crate::model::{Bounds, Table, MOST_LOSSES, MOST_SYMBOLS, MOST_WAITING};
 use crate::random::Random;
 use crate::refusal::Offered;
 use crate::run::FIGURE;
@@ -170,7 +170,25 @@ pub fn edges() -> Vec<Case> {
             cases.push(Case::Run { offered: small, trace: vec![0; events], room });
         }
     }
+    cases.extend(bound_edges());
     cases.extend(limit_edges());
+    cases
+}
+
+/// All bounds. A box that takes nothing lets B inputs wait and c - 1 be lost: the next one flags it. T
+/// takes every second input at most.
+fn bound_edges() -> Vec<Case> {
+    let idle = Table { states: 1, inputs: 1, outputs: 1, rows: vec![255, 0] };
+    let mut cases = Vec::new();
+    for waiting in 1..=MOST_WAITING {
+        for losses in 1..=MOST_LOSSES {
+            let bounds = Bounds { waiting, losses };
+            cases.push(Handed::of(&idle, bounds, vec![0; waiting + losses + 1]).run());
+            let mut trace = vec![0; waiting + losses];
+            trace.extend([128, 0, 129, 0, 0]);
+            cases.push(Handed::of(&tables::small(), bounds, trace).run());
+        }
+    }
     cases
 }
 

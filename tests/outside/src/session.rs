@@ -193,7 +193,7 @@ impl Session {
             (Wrong::UnsoundHeldRest, held.1.iter().all(|input| *input == 0)),
             (Wrong::UnsoundArrived, self.arrived <= self.events),
             (Wrong::UnsoundEvents, self.events <= MOST_EVENTS),
-            (Wrong::UnsoundFlagPlace, self.flag.map_or(true, |place| place < self.events)),
+            (Wrong::UnsoundFlagPlace, self.flag.is_none_or(|place| place < self.events)),
             (Wrong::UnsoundFlagged, self.flag.is_none() || self.set.is_empty()),
             (Wrong::UnsoundUnflagged, self.flag.is_some() || !self.set.is_empty()),
         ];

@@ -2,7 +2,9 @@
 //! counts, flags), of damaged ones and of garbage; and a table of edges, clause by clause.
 
 use crate::case::Case;
-use crate::model::{Bounds, Configuration, Set, Table, Watch, FIRST_OUTPUT, MOST_LOSSES, MOST_STATES, MOST_WAITING, START};
+use crate::model::{
+    Bounds, Configuration, Set, Table, Watch, FIRST_OUTPUT, MOST_LOSSES, MOST_STATES, MOST_WAITING, START,
+};
 use crate::random::Random;
 use crate::session::{Session, BYTES, MOST_EVENTS, WORDS};
 use crate::tables;
@@ -142,8 +144,7 @@ fn damage(random: &mut Random, session: &mut Session) {
 /// Random words and bytes, all of them or few.
 pub fn garbage(random: &mut Random) -> Case {
     let filled = random.pick(&[1, 20, 100]);
-    let words: Vec<u64> =
-        (0..WORDS).map(|_| if random.chance(filled, 100) { random.number() } else { 0 }).collect();
+    let words: Vec<u64> = (0..WORDS).map(|_| if random.chance(filled, 100) { random.number() } else { 0 }).collect();
     let bytes: Vec<u8> = (0..BYTES).map(|_| if random.chance(filled, 100) { random.byte() } else { 0 }).collect();
     Case::Feed { session: Session::from_parts(&words, &bytes), event: random.byte() }
 }

@@ -13,12 +13,7 @@ pub fn small() -> Table {
 }
 
 pub fn standard_box() -> Table {
-    Table {
-        states: standard::STATES,
-        inputs: standard::INPUTS,
-        outputs: standard::OUTPUTS,
-        rows: standard::rows(),
-    }
+    Table { states: standard::STATES, inputs: standard::INPUTS, outputs: standard::OUTPUTS, rows: standard::rows() }
 }
 
 /// A table whose every entry is a random state, `allowed` times in a hundred, and not allowed otherwise.
@@ -64,24 +59,24 @@ pub fn table(random: &mut Random) -> Table {
         2 => standard_box(),
         3 => scattered(random, MOST_STATES, MOST_SYMBOLS, MOST_SYMBOLS, 60),
         4 | 5 => scattered(random, states, inputs, outputs, 90),
-        6 | 7 | 8 => scattered(random, states, inputs, outputs, 30),
+        6..=8 => scattered(random, states, inputs, outputs, 30),
         _ => counter(random, states, inputs, outputs),
     }
 }
 
 pub fn bounds(random: &mut Random) -> Bounds {
-    let waiting = if random.chance(2, 3) { random.between(1, 5) } else { random.between(1, MOST_WAITING) };
-    let losses = if random.chance(2, 3) { random.between(1, 3) } else { random.between(1, MOST_LOSSES) };
+    let waiting = if random.chance(1, 2) { random.between(1, 5) } else { random.between(1, MOST_WAITING) };
+    let losses = if random.chance(1, 2) { random.between(1, 3) } else { random.between(1, MOST_LOSSES) };
     Bounds { waiting, losses }
 }
 
 /// A length from 0 to 60, or less where the search over a large table would take long.
 pub fn length(random: &mut Random, table: &Table, bounds: Bounds) -> usize {
-    const CONFIGURATIONS: usize = 60_000;
+    const CONFIGURATIONS: usize = 300_000;
     let size = table.states * (bounds.waiting + 1) * bounds.losses;
-    let most = (CONFIGURATIONS / size).clamp(4, 60);
-    let most = random.pick(&[most, most.min(8), most.min(24)]);
-    random.below(most + 1)
+    let most = (CONFIGURATIONS / size).clamp(8, 60);
+    let least = random.pick(&[0, 0, most / 2]);
+    random.between(least, most)
 }
 
 /// A byte that is a valid event of the table.
@@ -110,7 +105,7 @@ pub fn walk(random: &mut Random, table: &Table, bounds: Bounds, length: usize) -
     let mut line: Vec<u8> = Vec::new();
     let mut trace = Vec::new();
     // A box that likes full lines shows other things than one that takes at once.
-    let eager = random.between(1, 4);
+    let (polled, eager) = (random.between(1, 4), random.between(1, 4));
     while trace.len() < length {
         let outputs: Vec<(u8, usize)> = (0..table.outputs as u8)
             .filter_map(|output| table.shown(state, output, Wrong::Nothing).map(|next| (output, next)))
@@ -118,7 +113,7 @@ pub fn walk(random: &mut Random, table: &Table, bounds: Bounds, length: usize) -
         let taken = line.first().and_then(|input| table.taken(state, *input, Wrong::Nothing));
         let mut moves = Vec::new();
         if line.len() < bounds.waiting {
-            moves.extend([Move::Arrive, Move::Arrive]);
+            moves.extend(vec![Move::Arrive; polled]);
         }
         if let Some(next) = taken {
             moves.extend(vec![Move::Take(next); eager]);
@@ -126,8 +121,9 @@ pub fn walk(random: &mut Random, table: &Table, bounds: Bounds, length: usize) -
         if !line.is_empty() && run + 1 < bounds.losses {
             moves.push(Move::Lose);
         }
-        for (output, next) in outputs {
-            moves.push(Move::Output(output, next));
+        if !outputs.is_empty() {
+            let (output, next) = random.pick(&outputs);
+            moves.extend(vec![Move::Output(output, next); 2]);
         }
         if moves.is_empty() {
             break;
@@ -175,20 +171,22 @@ fn likely(random: &mut Random, table: &Table, state: usize) -> u8 {
     random.below(table.inputs) as u8
 }
 
-/// A walk, and in half of the cases a fault put into it: an event changed, put in or left out.
+/// A walk, and in half of the cases some faults put into it: events changed, put in or left out.
 pub fn trace(random: &mut Random, table: &Table, bounds: Bounds, length: usize) -> Vec<u8> {
     let mut trace = walk(random, table, bounds, length);
     if random.chance(1, 2) {
         return trace;
     }
-    let place = random.below(trace.len() + 1);
-    let put = event(random, table);
-    match random.below(3) {
-        0 if place < trace.len() => trace[place] = put,
-        1 if place < trace.len() => {
-            trace.remove(place);
+    for _ in 0..random.between(1, 3) {
+        let place = random.below(trace.len() + 1);
+        let put = event(random, table);
+        match random.below(3) {
+            0 if place < trace.len() => trace[place] = put,
+            1 if place < trace.len() => {
+                trace.remove(place);
+            }
+            _ => trace.insert(place, put),
         }
-        _ => trace.insert(place, put),
     }
     trace
 }

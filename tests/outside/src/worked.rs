@@ -3,10 +3,11 @@
 use crate::case::{Answer, Case};
 use crate::house::{written, Content};
 use crate::listing::list;
-use crate::model::{Bounds, Configuration, Set, Watch};
+use crate::model::{Bounds, Configuration, Event, Set, Watch};
+use crate::random::Random;
 use crate::refusal::Offered;
 use crate::session::{feed, open, Session};
-use crate::tables::{offered, small};
+use crate::tables::{offered, scattered, small, trace};
 use crate::wrong::Wrong;
 
 /// T under these bounds after these events.
@@ -20,8 +21,10 @@ fn after(waiting: usize, losses: usize, trace: &[u8]) -> Watch {
 }
 
 fn set(members: &[(usize, usize, usize)]) -> Set {
-    let members: Vec<Configuration> =
-        members.iter().map(|(state, waiting, run)| Configuration { state: *state, waiting: *waiting, run: *run }).collect();
+    let members: Vec<Configuration> = members
+        .iter()
+        .map(|(state, waiting, run)| Configuration { state: *state, waiting: *waiting, run: *run })
+        .collect();
     Set::of(&members)
 }
 
@@ -105,7 +108,8 @@ fn listing_of_nothing_and_of_refusals() {
     assert_eq!(list(&file(&[]), Wrong::Nothing).text, "event symbol states waiting run\nconsistent\n");
     assert_eq!(list(&[], Wrong::Nothing).text, "refused 11 0\n");
     assert_eq!(list(&[0; 512], Wrong::Nothing).text, "refused 13 0\n");
-    let mut content = Content { states: 2, inputs: 1, outputs: 2, waiting: 2, losses: 1, source: 1, rows: vec![], events: vec![] };
+    let mut content =
+        Content { states: 2, inputs: 1, outputs: 2, waiting: 2, losses: 1, source: 1, rows: vec![], events: vec![] };
     assert_eq!(list(&written(&content), Wrong::Nothing).text, "refused 14 0\n");
     content.source = 0;
     assert_eq!(list(&written(&content), Wrong::Nothing).text, "refused 1 0\n");
@@ -156,4 +160,54 @@ fn runs_write_twelve_bytes_an_event_and_no_more() {
     assert_eq!(ran.out[12..24], [1, 0, 0, 0, 0, 0, 0, 0, 0, 0, 0, 0]);
     assert_eq!(ran.out[24..36], [0, 0, 0, 0, 0, 0, 0, 0, 255, 255, 255, 255]);
     assert_eq!(ran.out[36..], [0xAA, 0xAA]);
+}
+
+/// Every admissible run that shows the trace, move by move and with its own line of waiting inputs; the
+/// last configurations of those that have shown all of it.
+fn enumerate(watch: &Watch, rest: &[u8], state: usize, line: &[u8], run: usize, last: &mut Set) {
+    let nothing = Wrong::Nothing;
+    if rest.is_empty() {
+        last.insert(Configuration { state, waiting: line.len(), run });
+    }
+    if let Some(input) = line.first() {
+        if let Some(next) = watch.table.taken(state, *input, nothing) {
+            enumerate(watch, rest, next, &line[1..], 0, last);
+        }
+        if run + 1 < watch.bounds.losses {
+            enumerate(watch, rest, state, &line[1..], run + 1, last);
+        }
+    }
+    match rest.first().map(|byte| watch.table.event(*byte, nothing)) {
+        Some(Some(Event::Arrival(input))) if line.len() < watch.bounds.waiting => {
+            let mut longer = line.to_vec();
+            longer.push(input);
+            enumerate(watch, &rest[1..], state, &longer, run, last);
+        }
+        Some(Some(Event::Output(output))) => {
+            if let Some(next) = watch.table.shown(state, output, nothing) {
+                enumerate(watch, &rest[1..], next, line, run, last);
+            }
+        }
+        _ => {}
+    }
+}
+
+#[test]
+fn plausible_sets_are_the_last_configurations_of_all_runs() {
+    let mut random = Random::new(11);
+    for _ in 0..2000 {
+        let (states, inputs, outputs) = (random.between(1, 4), random.between(1, 3), random.between(1, 3));
+        let table = scattered(&mut random, states, inputs, outputs, 70);
+        let bounds = Bounds { waiting: random.between(1, 3), losses: random.between(1, 3) };
+        let length = random.below(7);
+        let shown = trace(&mut random, &table, bounds, length);
+        let mut watch = Watch::start(table, bounds);
+        let start = watch.clone();
+        for byte in &shown {
+            watch.see(start.table.event(*byte, Wrong::Nothing).expect("a valid event"), Wrong::Nothing);
+        }
+        let mut last = Set::empty();
+        enumerate(&start, &shown, 0, &[], 0, &mut last);
+        assert_eq!(watch.set, last);
+    }
 }
