@@ -3,7 +3,7 @@
 
 use crate::case::Case;
 use crate::random::Random;
-use crate::{files, runs, sessions};
+use crate::{file_edges, files, run_edges, runs, session_edges, sessions};
 
 pub const BATCH: usize = 1000;
 
@@ -29,9 +29,9 @@ const MIX: &[(usize, Maker)] = &[
 
 /// The systematic cases, which need no seed.
 pub fn edges() -> Vec<Case> {
-    let mut cases = runs::edges();
-    cases.extend(sessions::edges());
-    cases.extend(files::edges());
+    let mut cases = run_edges::edges();
+    cases.extend(session_edges::edges());
+    cases.extend(file_edges::edges());
     cases
 }
 

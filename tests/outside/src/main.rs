@@ -4,6 +4,7 @@
 mod case;
 mod compare;
 mod driver;
+mod file_edges;
 mod files;
 mod generate;
 mod house;
@@ -13,11 +14,14 @@ mod random;
 mod refusal;
 mod report;
 mod run;
+mod run_edges;
 mod runs;
 mod session;
+mod session_edges;
 mod sessions;
 mod standard;
 mod tables;
+mod wire;
 #[cfg(test)]
 mod worked;
 mod wrong;
@@ -52,7 +56,7 @@ fn main() -> ExitCode {
     let arguments: Vec<String> = std::env::args().skip(1).collect();
     if arguments.first().map(String::as_str) == Some("--serve") {
         let wrong = arguments.get(1).and_then(|name| wrong::named(name)).unwrap_or(Wrong::Nothing);
-        return match driver::serve(wrong) {
+        return match wire::serve(wrong) {
             Ok(()) => ExitCode::SUCCESS,
             Err(_) => ExitCode::FAILURE,
         };
@@ -102,7 +106,7 @@ fn asked(arguments: &[String]) -> Option<Asked> {
 
 /// The edges in batches, then the random batches, then the full run if it is wanted.
 fn batches(edges: &[Case], seed: u64, random: u64, full: bool) -> impl Iterator<Item = Vec<Case>> + '_ {
-    let last = if full { vec![vec![runs::full_run()]] } else { Vec::new() };
+    let last = if full { vec![vec![run_edges::full_run()]] } else { Vec::new() };
     let systematic = edges.chunks(generate::BATCH).map(|cases| cases.to_vec());
     systematic.chain((0..random).map(move |number| generate::batch(seed, number))).chain(last)
 }
@@ -118,6 +122,10 @@ fn work(asked: &Asked) -> ExitCode {
         let only: Vec<Case> = all.skip(number).take(1).collect();
         for case in &only {
             println!("{case:?}");
+        }
+        if only.is_empty() {
+            println!("FAILED: there is no case {number}");
+            failed += 1;
         }
         let tally = compare::compare(&asked.start, asked.seed, &mut std::iter::once(only), number);
         passed += tally.passed.iter().sum::<usize>();

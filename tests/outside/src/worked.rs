@@ -6,8 +6,9 @@ use crate::listing::list;
 use crate::model::{Bounds, Configuration, Event, Set, Watch};
 use crate::random::Random;
 use crate::refusal::Offered;
-use crate::session::{feed, open, Session};
-use crate::tables::{offered, scattered, small, trace};
+use crate::session::{feed, open, Session, MOST_EVENTS};
+use crate::sessions::sound;
+use crate::tables::{event, offered, scattered, small, trace};
 use crate::wrong::Wrong;
 
 /// T under these bounds after these events.
@@ -209,5 +210,48 @@ fn plausible_sets_are_the_last_configurations_of_all_runs() {
         let mut last = Set::empty();
         enumerate(&start, &shown, 0, &[], 0, &mut last);
         assert_eq!(watch.set, last);
+    }
+}
+
+/// A member of a sound session's set with its own line: the newest of the held inputs.
+fn fed_alone(watch: &Watch, one: Configuration, event: Event, last: &mut Set) {
+    let mut line = watch.held[watch.held.len() - one.waiting..].to_vec();
+    match event {
+        Event::Arrival(_) if line.len() == watch.bounds.waiting => {}
+        Event::Arrival(input) => {
+            line.push(input);
+            enumerate(watch, &[], one.state, &line, one.run, last);
+        }
+        Event::Output(output) => {
+            if let Some(state) = watch.table.shown(one.state, output, Wrong::Nothing) {
+                enumerate(watch, &[], state, &line, one.run, last);
+            }
+        }
+    }
+}
+
+#[test]
+fn feeding_any_sound_session_moves_each_member_by_itself() {
+    let mut random = Random::new(12);
+    let mut seen = 0;
+    while seen < 2000 {
+        let session = sound(&mut random);
+        assert!(session.sound(Wrong::Nothing));
+        let watch = session.watch();
+        let byte = event(&mut random, &watch.table);
+        // A long line has too many runs to go through one by one.
+        if watch.bounds.waiting > 8 || watch.events == MOST_EVENTS {
+            continue;
+        }
+        seen += 1;
+        let (refusal, fed) = feed(&session, byte, Wrong::Nothing);
+        assert_eq!(refusal, None);
+        assert!(fed.sound(Wrong::Nothing));
+        let mut last = Set::empty();
+        for one in watch.set.members() {
+            let event = watch.table.event(byte, Wrong::Nothing).expect("a valid event");
+            fed_alone(&watch, *one, event, &mut last);
+        }
+        assert_eq!(fed.set, last);
     }
 }
