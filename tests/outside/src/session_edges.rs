@@ -3,6 +3,7 @@
 
 use crate::case::Case;
 use crate::model::{Bounds, Configuration, Set, Table, Watch, FIRST_OUTPUT, START};
+use crate::random::Random;
 use crate::session::{Session, MOST_EVENTS};
 use crate::sessions::follow;
 use crate::tables;
@@ -10,6 +11,7 @@ use crate::tables;
 /// Document 01's edges for feeding.
 pub fn edges() -> Vec<Case> {
     let mut cases = slips();
+    cases.extend(corners());
     for session in clause_edges() {
         // One input and one output, and one byte that is never valid: 8 and 9 stand before 7.
         for event in [0, FIRST_OUTPUT, 127] {
@@ -42,6 +44,28 @@ fn slips() -> Vec<Case> {
                         cases.push(Case::Feed { session: Session::of(&watch), event });
                     }
                 }
+            }
+        }
+    }
+    cases
+}
+
+/// The corners of the largest set, and every waiting count: single members of a session with 64 states,
+/// B 32, c 8 and held inputs that differ, so that it shows which of them is taken as the oldest.
+fn corners() -> Vec<Case> {
+    let mut random = Random::new(64);
+    let table = tables::scattered(&mut random, 64, 16, 16, 70);
+    let held: Vec<u8> = (0..32).map(|place| (place * 5 + place / 16) % 16).collect();
+    let mut cases = Vec::new();
+    for waiting in 0..=32 {
+        for (state, run) in [(0, 0), (0, 7), (63, 0), (63, 6), (63, 7), (31, 1), (32, 7)] {
+            let mut watch = Watch::start(table.clone(), Bounds { waiting: 32, losses: 8 });
+            watch.set = Set::of(&[Configuration { state, waiting, run }]);
+            watch.held = held.clone();
+            watch.arrived = 100;
+            watch.events = 200;
+            for event in [15, FIRST_OUTPUT + 15, FIRST_OUTPUT + (waiting as u8) % 16] {
+                cases.push(Case::Feed { session: Session::of(&watch), event });
             }
         }
     }
