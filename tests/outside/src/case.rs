@@ -1,0 +1,97 @@
+//! One case: a function of the proved code with all that it is handed, and the answer to it.
+
+use crate::house::{self, Answered};
+use crate::listing::{self, Listed};
+use crate::refusal::{Offered, Refusal};
+use crate::run::{self, Ran};
+use crate::session::{self, Session};
+use crate::wrong::Wrong;
+
+#[derive(Clone, Debug)]
+pub enum Case {
+    Open { offered: Offered },
+    Feed { session: Session, event: u8 },
+    Run { offered: Offered, trace: Vec<u8>, room: usize },
+    Read { file: Vec<u8>, row_room: usize, event_room: usize },
+    List { file: Vec<u8> },
+}
+
+#[derive(Clone, Debug, PartialEq)]
+pub enum Answer {
+    Session { told: [u64; 3], session: Session },
+    Run(Ran),
+    Read(Answered),
+    List(Listed),
+}
+
+/// The functions, in the order in which the driver numbers them, each with the refusal numbers that
+/// it can give.
+pub const FUNCTIONS: &[(&str, &[u64])] = &[
+    ("open", &[1, 2, 3, 4, 5, 6]),
+    ("feed", &[7, 8, 9]),
+    ("run", &[1, 2, 3, 4, 5, 6, 7, 9, 10]),
+    ("read", &[1, 2, 3, 4, 5, 6, 7, 9, 10, 11, 12, 13, 14]),
+    ("list", &[1, 2, 3, 4, 5, 6, 7, 9, 11, 12, 13, 14]),
+];
+
+fn told(refusal: Option<Refusal>) -> [u64; 3] {
+    refusal.map_or([0; 3], |refusal| refusal.told())
+}
+
+impl Case {
+    /// The place of the case's function in FUNCTIONS.
+    pub fn function(&self) -> usize {
+        match self {
+            Case::Open { .. } => 0,
+            Case::Feed { .. } => 1,
+            Case::Run { .. } => 2,
+            Case::Read { .. } => 3,
+            Case::List { .. } => 4,
+        }
+    }
+
+    /// What the right implementation answers, or a wrong one.
+    pub fn answer(&self, wrong: Wrong) -> Answer {
+        match self {
+            Case::Open { offered } => {
+                let (refusal, session) = session::open(offered, wrong);
+                Answer::Session { told: told(refusal), session }
+            }
+            Case::Feed { session, event } => {
+                let (refusal, session) = session::feed(session, *event, wrong);
+                Answer::Session { told: told(refusal), session }
+            }
+            Case::Run { offered, trace, room } => Answer::Run(run::run(offered, trace, *room, wrong)),
+            Case::Read { file, row_room, event_room } => Answer::Read(house::read(file, *row_room, *event_room, wrong)),
+            Case::List { file } => Answer::List(listing::list(file, wrong)),
+        }
+    }
+}
+
+impl Answer {
+    /// Whether a box is flagged that was not refused.
+    pub fn flagged(&self) -> bool {
+        match self {
+            Answer::Session { session, .. } => session.flag.is_some(),
+            Answer::Run(ran) => ran.told[3] > 0,
+            Answer::Read(_) => false,
+            Answer::List(listed) => listed.outcome == listing::FLAGGED,
+        }
+    }
+
+    /// The number told, 0 if the case was not refused.
+    pub fn number(&self) -> u64 {
+        match self {
+            Answer::Session { told, .. } => told[0],
+            Answer::Run(ran) => ran.told[0],
+            Answer::Read(answered) => answered.told[0],
+            Answer::List(listed) => {
+                let mut words = listed.text.split_whitespace();
+                match (words.next(), words.next()) {
+                    (Some("refused"), Some(number)) => number.parse().unwrap_or(0),
+                    _ => 0,
+                }
+            }
+        }
+    }
+}

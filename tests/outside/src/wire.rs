@@ -1,0 +1,191 @@
+//! Requests and answers as bytes, every number as 8 of them, least byte first; and a driver made of this
+//! package's own implementation, with which the way of asking can be tried without the proved code.
+
+use crate::case::{Answer, Case};
+use crate::house::Answered;
+use crate::listing::Listed;
+use crate::refusal::Offered;
+use crate::run::Ran;
+use crate::session::{Session, BYTES, WORDS};
+use crate::wrong::Wrong;
+use std::io::{self, Read, Write};
+
+/// No text is longer than this; a longer length is an answer out of step.
+const MOST_TEXT: u64 = 1 << 24;
+
+fn put(bytes: &mut Vec<u8>, number: u64) {
+    bytes.extend(number.to_le_bytes());
+}
+
+fn put_session(bytes: &mut Vec<u8>, session: &Session) {
+    for word in session.words() {
+        put(bytes, word);
+    }
+    bytes.extend(session.bytes());
+}
+
+fn put_offered(bytes: &mut Vec<u8>, offered: &Offered) {
+    for number in [offered.states, offered.inputs, offered.outputs, offered.waiting, offered.losses] {
+        put(bytes, number);
+    }
+    put_counted(bytes, &offered.rows);
+}
+
+fn put_counted(bytes: &mut Vec<u8>, counted: &[u8]) {
+    put(bytes, counted.len() as u64);
+    bytes.extend(counted);
+}
+
+/// The bytes of a request.
+pub fn request(case: &Case) -> Vec<u8> {
+    let mut bytes = Vec::new();
+    put(&mut bytes, case.function() as u64 + 1);
+    match case {
+        Case::Open { offered } => put_offered(&mut bytes, offered),
+        Case::Feed { session, event } => {
+            put_session(&mut bytes, session);
+            put(&mut bytes, *event as u64);
+        }
+        Case::Run { offered, trace, room } => {
+            put_offered(&mut bytes, offered);
+            put_counted(&mut bytes, trace);
+            put(&mut bytes, *room as u64);
+        }
+        Case::Read { file, row_room, event_room } => {
+            put_counted(&mut bytes, file);
+            put(&mut bytes, *row_room as u64);
+            put(&mut bytes, *event_room as u64);
+        }
+        Case::List { file } => put_counted(&mut bytes, file),
+    }
+    bytes
+}
+
+fn get(from: &mut dyn Read) -> io::Result<u64> {
+    let mut bytes = [0; 8];
+    from.read_exact(&mut bytes)?;
+    Ok(u64::from_le_bytes(bytes))
+}
+
+fn get_bytes(from: &mut dyn Read, length: usize) -> io::Result<Vec<u8>> {
+    let mut bytes = vec![0; length];
+    from.read_exact(&mut bytes)?;
+    Ok(bytes)
+}
+
+fn get_told<const COUNT: usize>(from: &mut dyn Read) -> io::Result<[u64; COUNT]> {
+    let mut told = [0; COUNT];
+    for number in told.iter_mut() {
+        *number = get(from)?;
+    }
+    Ok(told)
+}
+
+fn get_session(from: &mut dyn Read) -> io::Result<Session> {
+    let words: [u64; WORDS] = get_told(from)?;
+    let bytes = get_bytes(from, BYTES)?;
+    Ok(Session::from_parts(&words, &bytes))
+}
+
+fn get_counted(from: &mut dyn Read) -> io::Result<Vec<u8>> {
+    let length = get(from)? as usize;
+    get_bytes(from, length)
+}
+
+fn get_offered(from: &mut dyn Read) -> io::Result<Offered> {
+    let [states, inputs, outputs, waiting, losses] = get_told(from)?;
+    Ok(Offered { states, inputs, outputs, waiting, losses, rows: get_counted(from)? })
+}
+
+/// Reads the answer to a case.
+pub fn get_answer(case: &Case, from: &mut dyn Read) -> io::Result<Answer> {
+    Ok(match case {
+        Case::Open { .. } | Case::Feed { .. } => Answer::Session { told: get_told(from)?, session: get_session(from)? },
+        Case::Run { room, .. } => Answer::Run(Ran { told: get_told(from)?, out: get_bytes(from, *room)? }),
+        Case::Read { row_room, event_room, .. } => Answer::Read(Answered {
+            told: get_told(from)?,
+            rows: get_bytes(from, *row_room)?,
+            events: get_bytes(from, *event_room)?,
+        }),
+        Case::List { .. } => {
+            let length = get(from)?;
+            if length > MOST_TEXT {
+                return Err(io::Error::new(io::ErrorKind::InvalidData, format!("a text of {length} bytes")));
+            }
+            let text = get_bytes(from, length as usize)?;
+            Answer::List(Listed { text: String::from_utf8_lossy(&text).into_owned(), outcome: get(from)? })
+        }
+    })
+}
+
+/// Answers requests on standard input until it ends, rightly or as a wrong monitor.
+pub fn serve(wrong: Wrong) -> io::Result<()> {
+    let mut input = io::BufReader::new(io::stdin().lock());
+    let mut output = io::BufWriter::new(io::stdout().lock());
+    loop {
+        let operation = match get(&mut input) {
+            Ok(operation) => operation,
+            Err(error) if error.kind() == io::ErrorKind::UnexpectedEof => return output.flush(),
+            Err(error) => return Err(error),
+        };
+        let case = get_case(operation, &mut input)?;
+        output.write_all(&reply(&case.answer(wrong)))?;
+        output.flush()?;
+    }
+}
+
+fn get_case(operation: u64, from: &mut dyn Read) -> io::Result<Case> {
+    Ok(match operation {
+        1 => Case::Open { offered: get_offered(from)? },
+        2 => Case::Feed { session: get_session(from)?, event: get(from)? as u8 },
+        3 => Case::Run { offered: get_offered(from)?, trace: get_counted(from)?, room: get(from)? as usize },
+        4 => Case::Read { file: get_counted(from)?, row_room: get(from)? as usize, event_room: get(from)? as usize },
+        5 => Case::List { file: get_counted(from)? },
+        _ => return Err(io::Error::new(io::ErrorKind::InvalidData, format!("operation {operation}"))),
+    })
+}
+
+fn reply(answer: &Answer) -> Vec<u8> {
+    let mut bytes = Vec::new();
+    let told: &[u64] = match answer {
+        Answer::Session { told, .. } => told,
+        Answer::Run(ran) => &ran.told,
+        Answer::Read(answered) => &answered.told,
+        Answer::List(_) => &[],
+    };
+    for number in told {
+        put(&mut bytes, *number);
+    }
+    match answer {
+        Answer::Session { session, .. } => put_session(&mut bytes, session),
+        Answer::Run(ran) => bytes.extend(&ran.out),
+        Answer::Read(answered) => {
+            bytes.extend(&answered.rows);
+            bytes.extend(&answered.events);
+        }
+        Answer::List(listed) => {
+            put_counted(&mut bytes, listed.text.as_bytes());
+            put(&mut bytes, listed.outcome);
+        }
+    }
+    bytes
+}
+
+#[cfg(test)]
+mod tests {
+    use super::*;
+    use crate::generate;
+
+    #[test]
+    fn what_is_sent_is_what_is_read() {
+        for case in generate::batch(3, 0) {
+            let mut bytes = &request(&case)[..];
+            let operation = get(&mut bytes).expect("an operation");
+            let read = get_case(operation, &mut bytes).expect("a case");
+            assert!(bytes.is_empty());
+            let answer = case.answer(Wrong::Nothing);
+            assert!(read.answer(Wrong::Nothing) == answer);
+            assert!(get_answer(&case, &mut &reply(&answer)[..]).expect("an answer") == answer);
+        }
+    }
+}

@@ -1,0 +1,111 @@
+//! The wrong monitors: one switch each, taken from document 01's slips, from the monitors that its
+//! demands shut out, from its orders and limits. The generated cases must tell every one of them
+//! apart from the right implementation; a case list that cannot is too weak.
+
+macro_rules! wrong_monitors {
+    ($($name:ident: $does:literal,)*) => {
+        #[derive(Clone, Copy, PartialEq, Eq, Debug)]
+        pub enum Wrong {
+            /// The right implementation.
+            Nothing,
+            $($name,)*
+        }
+
+        /// Every wrong monitor with its name and what it does.
+        pub const ALL: &[(Wrong, &str, &str)] = &[$((Wrong::$name, stringify!($name), $does),)*];
+    };
+}
+
+wrong_monitors! {
+    // The moves.
+    FullLineThenTake: "adds to a full line and only then takes",
+    TakesNewest: "takes from the newest end of the line",
+    OutputResetsRun: "an output resets the run of losses",
+    ArrivalResetsRun: "an arrival resets the run of losses",
+    TakeKeepsRun: "a take does not reset the run of losses",
+    LosesUpToBound: "allows c losses in a row",
+    LosesOneFewer: "allows c - 2 losses in a row",
+    NeverLoses: "forgets that inputs may be lost",
+    ReadsNotAllowed: "reads 255 as a state number",
+    OneMoreWaits: "lets B + 1 inputs wait",
+    OneFewerWaits: "lets B - 1 inputs wait",
+    TakesBeforeEvent: "takes and loses before the event too",
+    MovesOnce: "takes or loses at most once after an event",
+    // What the demands shut out.
+    RefusesValid: "refuses the last output symbol",
+    FixedVerdict: "always answers the one configuration (0,0,0)",
+    Unmoved: "hands the session back unmoved",
+    RepeatsFirst: "judges the first event and then repeats itself",
+    InventsWaiting: "always says that 0 to B inputs may wait",
+    InventsRun: "always says that 0 to c - 1 inputs may be lost",
+    EveryState: "calls every state plausible",
+    // Flags and counts.
+    FlagOneLate: "tells the flag one place late",
+    FlagAtLast: "moves the flag to the last event",
+    SetRefilled: "starts anew after a flag",
+    CountsStop: "stops counting after a flag",
+    HeldStops: "does not keep up the held inputs after a flag",
+    HeldForgetsOldest: "holds one input too few",
+    // Orders of refusal.
+    InvalidBeforeLimit: "tests 7 before 9",
+    LossesBeforeWaiting: "tests 6 before 5",
+    LengthBeforeStates: "tests 1 before 2",
+    EntriesByColumn: "reads the entries for 4 column by column",
+    OutputsBeforeInputs: "looks at outputs before inputs for 3",
+    RoomBeforeEvents: "tests 10 before 7",
+    StandardBeforeCounts: "tests 14 before 3",
+    StandardEntries: "tests 4 with source 1, before 1",
+    StandardRowsPass: "lets rows pass with source 1",
+    EventRoomFirst: "looks at the event buffer before the row buffer for 10",
+    ChecksFirst: "tests all checks before any other part of a block",
+    LimitOneLow: "takes one event fewer than the limit",
+    LimitOneHigh: "takes one event more than the limit",
+    InvalidFromOne: "counts the place of 7 from 1",
+    // House files.
+    WeightsFromZero: "weighs the check's bytes from 0",
+    CheckByWord: "takes the check modulo 65,536",
+    CheckReduced: "reduces the stored check before comparing",
+    FillOverlooked: "does not look at the fill",
+    ShortFollowed: "lets a short block be followed by its own kind",
+    OrderOverlooked: "lets rows follow events",
+    NumberOverlooked: "does not look at the block number",
+    SecondByteOverlooked: "does not look at byte 1",
+    UsedUpToPayload: "lets block 0 use more than 6 bytes",
+    BlocksSixteen: "reads files of 16 blocks",
+    // Memory handed over.
+    WritesWhenRefused: "writes what fits although the buffer is too short",
+    ClearsRest: "sets later bytes of a buffer to 0",
+    TellsWhenRefused: "tells counts of a refused file",
+    RefusedOpeningKept: "hands out a session with a refused opening",
+    RefusedFeedCleared: "hands out a session of zeros with a refused feed",
+    // The listing.
+    ListingStops: "leaves out the events after the flag",
+    ListingShouts: "writes upper-case digits",
+    ListingOneDash: "writes one dash for both pairs",
+    ListingUnended: "leaves the last line open",
+    ListingOnePlace: "leaves out the column for 4",
+    // Clauses of soundness, each overlooked by one monitor.
+    UnsoundStates: "overlooks the session's count of states",
+    UnsoundInputs: "overlooks the session's count of inputs",
+    UnsoundOutputs: "overlooks the session's count of outputs",
+    UnsoundEntries: "overlooks the session's entries",
+    UnsoundWaitingBound: "overlooks the session's B",
+    UnsoundLossBound: "overlooks the session's c",
+    UnsoundSetStates: "overlooks states outside the table",
+    UnsoundSetWaiting: "overlooks waiting counts above B",
+    UnsoundSetRun: "overlooks runs of c and more",
+    UnsoundSetArrived: "overlooks waiting counts above the inputs seen",
+    UnsoundHeld: "overlooks held inputs that are not valid",
+    UnsoundHeldRest: "overlooks unused places of the held inputs",
+    UnsoundRowsRest: "overlooks unused places of the table",
+    UnsoundArrived: "overlooks more inputs than events",
+    UnsoundEvents: "overlooks more events than the limit",
+    UnsoundFlagPlace: "overlooks a flag at or after the events seen",
+    UnsoundFlagged: "overlooks a flag beside a set that is not empty",
+    UnsoundUnflagged: "overlooks an empty set without a flag",
+}
+
+/// The wrong monitor of that name.
+pub fn named(name: &str) -> Option<Wrong> {
+    ALL.iter().find(|entry| entry.1 == name).map(|entry| entry.0)
+}
