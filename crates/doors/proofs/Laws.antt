@@ -1,0 +1,1 @@
+-- Every statement of specs/Laws.antt, proved, under one roof: other crates take the laws from here. Assumes nothing.

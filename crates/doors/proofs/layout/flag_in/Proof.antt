@@ -1,0 +1,25 @@
+-- `layout::flag_in` meets its contract. Assumes nothing.
+use mathlib.Core.Path.{sym, ap, _∙_}
+use native.Mathlib.Omega.{arith}
+use borrow.Author.Needs.{needs}
+use Rattle.doors.specs.Layout.{flag-in}
+use Rattle.doors.proofs.Layouts.{flag-none, flag-some}
+use Rattle.doors.proofs.layout.flag_in.Statement.{statement}
+use Rattle.doors.proofs.layout.flag_in.Tie as tie
+use Rattle.doors.proofs.layout.flag_in.Reads as reads
+use Rattle.doors.proofs.layout.flag_in.Lts as lts
+
+-- src/layout.rt:68:9
+returns : tie.Need-returns
+returns c = sym (ap flag-in (c .if1 .taken) ∙ flag-none)
+
+-- src/layout.rt:70:15
+sub-t3 : tie.Need-sub-t3
+sub-t3 c = search needs
+
+-- src/layout.rt:64:1
+returns-2 : tie.Need-returns-2
+returns-2 c = sym (flag-some _ (c .if1 .left))
+
+pub flag-in-spec : {M : Type 1} → statement M
+flag-in-spec = tie.close (tie.spec returns sub-t3 returns-2)
