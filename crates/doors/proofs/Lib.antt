@@ -1,3 +1,5 @@
 pub mod Laws
 mod Copies
 mod Layouts
+mod Flags
+mod Answers

@@ -63,6 +63,7 @@ fn held_in(bytes: &[u8]) -> [u8; 32]
 
 fn flag_in(word: u64) -> Flag
     ensures { λ r. ⌜ r ≡ flag-in word ⌝ }
+    ensures { λ r. ⌜ flag-word r < 2 ^ 64 ⌝ }
 {
     if word == 0 {
         return Flag::None;
@@ -74,10 +75,11 @@ fn flag_in(word: u64) -> Flag
 pub(crate) fn session_in(words: &[u64], bytes: &[u8]) -> Session
     requires { ⌜ (session-words ≤ length (now words)) × (session-bytes ≤ length (now bytes)) ⌝ }
     ensures { λ r. ⌜ r ≡ session-in (now (words .entry)) (now (bytes .entry)) ⌝ }
+    ensures { λ r. ⌜ flag-word (r .flag) < 2 ^ 64 ⌝ }
 {
     let set = set_in(words);
     let rows = rows_in(bytes);
-    let held = held_in(&bytes[HELD..]);
+    let held = held_in(&bytes[HELD..COUNTS]);
     let flag = flag_in(words[SEEN + 2]);
     Session {
         states: bytes[COUNTS],

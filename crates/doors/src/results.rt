@@ -99,7 +99,8 @@ pub(crate) fn of_read(reading: Reading) -> [u64; 11]
 {
     let t = told_of(reading);
     let c = held(reading);
-    let source = source_number(c.source);
+    let s = c.source;
+    let source = source_number(s);
     [
         t.number as u64,
         t.place as u64,

@@ -1,3 +1,6 @@
+-- `layout::session_in` meets its contract. Assumes nothing.
+use Rattle.doors.proofs.Layouts.{held-part}
+use Rattle.doors.specs.Layout.{session-in}
 use native.Mathlib.Omega.{arith}
 use borrow.Author.Needs.{needs}
 use Rattle.doors.proofs.layout.session_in.Statement.{statement}
@@ -9,101 +12,78 @@ use Rattle.doors.proofs.layout.held_in.Reads as held-in-reads
 use Rattle.doors.proofs.layout.rows_in.Reads as rows-in-reads
 use Rattle.doors.proofs.layout.set_in.Reads as set-in-reads
 
--- src/layout.rt:78:9
 set-in-requires : tie.Need-set-in-requires
 set-in-requires c κs = search needs
 
--- src/layout.rt:79:9
 rows-in-requires : tie.Need-rows-in-requires
 rows-in-requires c κs = search needs
 
--- src/layout.rt:80:24
 sub-held-in : tie.Need-sub-held-in
 sub-held-in c = search needs
 
--- src/layout.rt:80:24
 part-held-in-start : tie.Need-part-held-in-start
 part-held-in-start c = search needs
 
--- src/layout.rt:80:24
 part-held-in-end : tie.Need-part-held-in-end
 part-held-in-end c = search needs
 
--- src/layout.rt:80:9
 held-in-requires : tie.Need-held-in-requires
 held-in-requires c κs = search needs
 
--- src/layout.rt:81:30
 add-flag-in : tie.Need-add-flag-in
 add-flag-in c = search needs
 
--- src/layout.rt:81:24
 mul-flag-in : tie.Need-mul-flag-in
 mul-flag-in c = search needs
 
--- src/layout.rt:81:24
 shared-slice-read-flag-in : tie.Need-shared-slice-read-flag-in
 shared-slice-read-flag-in c = search needs
 
--- src/layout.rt:81:9
 flag-in-requires : tie.Need-flag-in-requires
 flag-in-requires c κs = search needs
 
--- src/layout.rt:83:17
 shared-slice-read-t15 : tie.Need-shared-slice-read-t15
 shared-slice-read-t15 c = search needs
 
--- src/layout.rt:84:23
 add-t8 : tie.Need-add-t8
 add-t8 c = search needs
 
--- src/layout.rt:84:17
 shared-slice-read-t17 : tie.Need-shared-slice-read-t17
 shared-slice-read-t17 c = search needs
 
--- src/layout.rt:85:24
 add-t11 : tie.Need-add-t11
 add-t11 c = search needs
 
--- src/layout.rt:85:18
 shared-slice-read-t19 : tie.Need-shared-slice-read-t19
 shared-slice-read-t19 c = search needs
 
--- src/layout.rt:87:24
 add-t20 : tie.Need-add-t20
 add-t20 c = search needs
 
--- src/layout.rt:87:18
 shared-slice-read-t22 : tie.Need-shared-slice-read-t22
 shared-slice-read-t22 c = search needs
 
--- src/layout.rt:88:23
 add-t23 : tie.Need-add-t23
 add-t23 c = search needs
 
--- src/layout.rt:88:17
 shared-slice-read-t25 : tie.Need-shared-slice-read-t25
 shared-slice-read-t25 c = search needs
 
--- src/layout.rt:91:17
 shared-slice-read-t13 : tie.Need-shared-slice-read-t13
 shared-slice-read-t13 c = search needs
 
--- src/layout.rt:92:24
 add-t28 : tie.Need-add-t28
 add-t28 c = search needs
 
--- src/layout.rt:92:18
 mul-t29 : tie.Need-mul-t29
 mul-t29 c = search needs
 
--- src/layout.rt:92:18
 shared-slice-read-t31 : tie.Need-shared-slice-read-t31
 shared-slice-read-t31 c = search needs
 
--- src/layout.rt:74:1
 returns : tie.Need-returns
-returns c = search needs
+unfolding session-in
+returns c = (rw (c .before .before .before .before .before .before .before .before .before .before .before .before .set-in .ensures, c .before .before .before .before .before .before .before .before .before .before .before .rows-in .ensures, c .before .before .before .before .before .before .before .before .before .held-in .ensures, c .before .before .before .before .before .before .before .flag-in .ensures .0, held-part), c .before .before .before .before .before .before .before .flag-in .ensures .1)
 
 pub session-in-spec : {M : Type 1} → statement M
 session-in-spec =
