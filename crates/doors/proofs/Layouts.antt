@@ -66,7 +66,7 @@ unfolding words-of
 words-put d x y s f n e p q =
     q
     ∙ rw (p, paste-front d (s .set), e)
-      (front-more d (s .set) (s .events ∷ s .arrived ∷ flag-word (s .flag) ∷ []) 264 (sym n))
+    (front-more d (s .set) (s .events ∷ s .arrived ∷ flag-word (s .flag) ∷ []) 264 (sym n))
 
 -- the rows, then the held inputs, then the counts and bounds
 pub bytes-put : (d x y z : List ℕ) (s : Session) → length (s .rows) ≡ 2048 → length (s .held) ≡ 32

@@ -3,3 +3,6 @@ mod Copies
 mod Layouts
 mod Flags
 mod Answers
+mod Lies
+mod After
+mod Unique

@@ -58,7 +58,12 @@ pub extern "C" fn rillmoth_open(
 
 // Feeds the session that lies in the memory lent one event, and leaves there what it became: where it was refused, what it was.
 #[no_mangle]
-pub extern "C" fn rillmoth_feed(words: &mut [u64], bytes: &mut [u8], byte: u8, told: &mut [u64]) -> bool
+pub extern "C" fn rillmoth_feed(
+    words: &mut [u64],
+    bytes: &mut [u8],
+    byte: u8,
+    told: &mut [u64],
+) -> bool
     ensures { λ r. ⌜ Feeding (now (words .entry)) (now (bytes .entry)) byte (now (told .entry)) r (now (words .exit)) (now (bytes .exit)) (now (told .exit)) ⌝ }
 {
     if !roomy(words.len(), bytes.len(), told.len()) {
@@ -91,14 +96,28 @@ pub extern "C" fn rillmoth_run<'a>(
     if told.len() < results::RUN {
         return false;
     }
-    let ran = run::run(rows, states, inputs, outputs, waiting, losses, trace, &mut *out);
+    let ran = run::run(
+        rows,
+        states,
+        inputs,
+        outputs,
+        waiting,
+        losses,
+        trace,
+        &mut *out,
+    );
     memory::copy_words(&results::of_run(ran), &mut *told, 0);
     true
 }
 
 // Reads a house file: its rows and its events to the starts of two buffers, and what it holds into the results.
 #[no_mangle]
-pub extern "C" fn rillmoth_read(file: &[u8], rows: &mut [u8], events: &mut [u8], told: &mut [u64]) -> bool
+pub extern "C" fn rillmoth_read(
+    file: &[u8],
+    rows: &mut [u8],
+    events: &mut [u8],
+    told: &mut [u64],
+) -> bool
     ensures { λ r. ⌜ Read (now (file .entry)) (now (rows .entry)) (now (events .entry)) (now (told .entry)) r (now (rows .exit)) (now (events .exit)) (now (told .exit)) ⌝ }
 {
     if told.len() < results::READ {

@@ -25,7 +25,7 @@ returns : tie.Need-returns
 returns c = doors.short (failed _ (c .before .roomy .ensures) (c .if1 .taken))
 
 session-in-requires : tie.Need-session-in-requires
-session-in-requires c κs = 
+session-in-requires c κs =
     let r = room (c .before .before .before .before .before .before .before .args .words .now) (c .before .before .before .before .before .before .before .args .bytes .now) (c .before .before .before .before .before .before .before .args .told .now) (passed _ (c .before .before .before .roomy .ensures) (c .before .before .if1 .left)) in
     (r .words, r .bytes)
 
@@ -33,14 +33,14 @@ feed-requires : tie.Need-feed-requires
 feed-requires c κs = search needs
 
 put-words-requires : tie.Need-put-words-requires
-put-words-requires c κs = 
+put-words-requires c κs =
     let r = room (c .before .before .before .before .before .before .before .before .before .before .before .args .words .now) (c .before .before .before .before .before .before .before .before .before .before .before .args .bytes .now) (c .before .before .before .before .before .before .before .before .before .before .before .args .told .now) (passed _ (c .before .before .before .before .before .before .before .roomy .ensures) (c .before .before .before .before .before .before .if1 .left)) in
     let e = c .before .before .before .session-in .ensures in
     let p = proper-in (c .before .before .before .before .before .before .before .before .before .before .before .args .words .now) (c .before .before .before .before .before .before .before .before .before .before .before .args .bytes .now) (r .words) (r .bytes) in
     (r .words, fed-small (c .before .before .before .session-in .result) (c .before .before .before .before .before .before .before .before .before .before .before .args .byte) (c .before .before .feed .result) (rw (e .0) p) (e .1) (c .before .before .feed .ensures))
 
 put-bytes-requires : tie.Need-put-bytes-requires
-put-bytes-requires c κs = 
+put-bytes-requires c κs =
     let r = room (c .before .before .before .before .before .before .before .before .before .before .before .before .before .before .before .args .words .now) (c .before .before .before .before .before .before .before .before .before .before .before .before .before .before .before .args .bytes .now) (c .before .before .before .before .before .before .before .before .before .before .before .before .before .before .before .args .told .now) (passed _ (c .before .before .before .before .before .before .before .before .before .before .before .roomy .ensures) (c .before .before .before .before .before .before .before .before .before .before .if1 .left)) in
     r .bytes
 
@@ -51,7 +51,7 @@ slice-aggregate-copy-words : tie.Need-slice-aggregate-copy-words
 slice-aggregate-copy-words c = search needs
 
 copy-words-requires : tie.Need-copy-words-requires
-copy-words-requires c κs = 
+copy-words-requires c κs =
     let r = room (c .before .before .before .before .before .before .before .before .before .before .before .before .before .before .before .before .before .before .before .before .before .args .words .now) (c .before .before .before .before .before .before .before .before .before .before .before .before .before .before .before .before .before .before .before .before .before .args .bytes .now) (c .before .before .before .before .before .before .before .before .before .before .before .before .before .before .before .before .before .before .before .before .before .args .told .now) (passed _ (c .before .before .before .before .before .before .before .before .before .before .before .before .before .before .before .before .before .roomy .ensures) (c .before .before .before .before .before .before .before .before .before .before .before .before .before .before .before .before .if1 .left)) in
     omega (arith, r .told)
 
@@ -65,7 +65,7 @@ same-length-3 : tie.Need-same-length-3
 same-length-3 c = search needs
 
 returns-2 : tie.Need-returns-2
-returns-2 c = 
+returns-2 c =
     feeds-by
     (c .before .before .before .before .before .before .before .before .before .before .before .before .before .before .before .feed .result)
     (passed _ (c .before .before .before .before .before .before .before .before .before .before .before .before .before .before .before .before .before .before .before .before .roomy .ensures) (c .before .before .before .before .before .before .before .before .before .before .before .before .before .before .before .before .before .before .before .if1 .left))

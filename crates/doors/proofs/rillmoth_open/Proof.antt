@@ -26,12 +26,12 @@ open-requires : tie.Need-open-requires
 open-requires c κs = search needs
 
 put-words-requires : tie.Need-put-words-requires
-put-words-requires c κs = 
+put-words-requires c κs =
     let r = room (c .before .before .before .before .before .before .before .before .before .args .words .now) (c .before .before .before .before .before .before .before .before .before .args .bytes .now) (c .before .before .before .before .before .before .before .before .before .args .told .now) (passed _ (c .before .before .before .before .roomy .ensures) (c .before .before .before .if1 .left)) in
     (r .words, rw (c .before .before .«open» .ensures) (opened-small _ _ _ _ _ _))
 
 put-bytes-requires : tie.Need-put-bytes-requires
-put-bytes-requires c κs = 
+put-bytes-requires c κs =
     let r = room (c .before .before .before .before .before .before .before .before .before .before .before .before .before .args .words .now) (c .before .before .before .before .before .before .before .before .before .before .before .before .before .args .bytes .now) (c .before .before .before .before .before .before .before .before .before .before .before .before .before .args .told .now) (passed _ (c .before .before .before .before .before .before .before .before .roomy .ensures) (c .before .before .before .before .before .before .before .if1 .left)) in
     r .bytes
 
@@ -42,7 +42,7 @@ slice-aggregate-copy-words : tie.Need-slice-aggregate-copy-words
 slice-aggregate-copy-words c = search needs
 
 copy-words-requires : tie.Need-copy-words-requires
-copy-words-requires c κs = 
+copy-words-requires c κs =
     let r = room (c .before .before .before .before .before .before .before .before .before .before .before .before .before .before .before .before .before .before .before .args .words .now) (c .before .before .before .before .before .before .before .before .before .before .before .before .before .before .before .before .before .before .before .args .bytes .now) (c .before .before .before .before .before .before .before .before .before .before .before .before .before .before .before .before .before .before .before .args .told .now) (passed _ (c .before .before .before .before .before .before .before .before .before .before .before .before .before .before .roomy .ensures) (c .before .before .before .before .before .before .before .before .before .before .before .before .before .if1 .left)) in
     omega (arith, r .told)
 
@@ -56,7 +56,7 @@ same-length-3 : tie.Need-same-length-3
 same-length-3 c = search needs
 
 returns-2 : tie.Need-returns-2
-returns-2 c = 
+returns-2 c =
     opens-by
     (c .before .before .before .before .before .before .before .before .before .before .before .before .before .before .before .«open» .result)
     (passed _ (c .before .before .before .before .before .before .before .before .before .before .before .before .before .before .before .before .before .roomy .ensures) (c .before .before .before .before .before .before .before .before .before .before .before .before .before .before .before .before .if1 .left))

@@ -37,7 +37,7 @@ same-length-3 : tie.Need-same-length-3
 same-length-3 c = search needs
 
 returns-2 : tie.Need-returns-2
-returns-2 c = 
+returns-2 c =
     reads-by (c .before .before .before .before .before .before .before .before .before .before .read .result) (le-leb _ _ (c .before .before .before .before .before .before .before .before .before .before .before .before .before .if1 .left)) (c .before .before .before .before .before .before .before .before .before .before .read .ensures) (told-put _ _ _ _ (c .before .before .before .before .before .of-read .ensures) (c .before .before .copy-words .ensures))
 
 pub rillmoth-read-spec : {M : Type 1} → statement M

@@ -35,7 +35,7 @@ same-length-2 : tie.Need-same-length-2
 same-length-2 c = search needs
 
 returns-2 : tie.Need-returns-2
-returns-2 c = 
+returns-2 c =
     runs-by (c .before .before .before .before .before .before .before .before .run .result) (le-leb _ _ (c .before .before .before .before .before .before .before .before .before .before .if1 .left)) (c .before .before .before .before .before .before .before .before .run .ensures) (told-put _ _ _ _ (c .before .before .before .before .before .of-run .ensures) (c .before .before .copy-words .ensures))
 
 pub rillmoth-run-spec : {M : Type 1} → statement M

@@ -11,7 +11,7 @@ use Rattle.doors.proofs.layout.flag_in.Lts as lts
 
 -- src/layout.rt:68:9
 returns : tie.Need-returns
-returns c = 
+returns c =
     let e = sym (ap flag-in (c .if1 .taken) ∙ flag-none) in
     (e, flag-fits _ (c .before .args .word) e (omega arith))
 
@@ -21,7 +21,7 @@ sub-t3 c = search needs
 
 -- src/layout.rt:64:1
 returns-2 : tie.Need-returns-2
-returns-2 c = 
+returns-2 c =
     let e = sym (flag-some _ (c .if1 .left)) in
     (e, flag-fits _ (c .before .args .word) e (omega arith))
 

@@ -27,7 +27,7 @@ same-length : tie.Need-same-length
 same-length c = search needs
 
 returns : tie.Need-returns
-returns c = 
+returns c =
     let s = c .before .before .before .before .before .before .before .before .before .before .before .before .before .before .args .t2 in
     let n : length (s .set) ≡ 264 = search needs in
     words-put (c .before .before .before .before .before .before .before .before .before .before .before .before .before .before .args .words .now) _ _ s _ n (c .before .before .before .before .before .before .before .before .before .before .before .before .flag-word .ensures) (c .before .before .before .before .before .before .before .copy-words .ensures) (c .before .before .copy-words2 .ensures)
