@@ -1,9 +1,9 @@
 -- What lies in the memory after an opening and after a feed. Assumes nothing.
-use mathlib.Core.Path.{_≡_, refl, sym, ap, subst, _∙_}
+use mathlib.Core.Path.{_≡_, refl, ap, _∙_}
 use mathlib.Core.List.{List}
 use Prim.Native.Nat.{ℕ, _≤_}
 use native.Mathlib.Omega.{arith}
-use lib.ListN.{length, take, drop, length-append, length-take, length-drop, length-replicate, length-set}
+use lib.ListN.{length, length-append, length-take, length-drop, length-replicate, length-set}
 use lib.Seq.{length-take-le}
 use Rattle.table.specs.declared.answer.Test.{Test}
 use Rattle.table.specs.declared.answer.Test.the-variants.{Passed, Refused}
@@ -13,8 +13,7 @@ use Rattle.monitor.specs.declared.session.Opened.{Opened}
 use Rattle.monitor.specs.Open.{zeros, padded, zero-session, begun, with-session, opening, opened}
 use Rattle.monitor.specs.Feed as feed
 use Rattle.monitor.specs.Feed.{FedTo}
-use Rattle.house.specs.File.{front}
-use Rattle.doors.specs.Layout.{session-words, session-bytes, words-of, bytes-of, session-in}
+use Rattle.doors.specs.Layout.{session-bytes, session-in}
 use Rattle.doors.specs.Doors as doors
 use Rattle.doors.specs.Laws.{Sized, OpenedLies, FedLies, RefusedKeeps}
 use Rattle.doors.proofs.Answers.{room}

@@ -1,9 +1,8 @@
 -- A flag that the monitor gives has a place below the events seen, so its word holds it. Assumes nothing.
-use mathlib.Core.Path.{_≡_, refl, sym, ap, _∙_}
+use mathlib.Core.Path.{_≡_, refl}
 use mathlib.Core.Bool.{Bool, true, false}
 use mathlib.Core.List.{List}
-use mathlib.Core.Option.{Option, some, none}
-use Prim.Native.Nat.{ℕ, _+_, _^_, _≤_, _<_}
+use Prim.Native.Nat.{ℕ, _^_, _≤_, _<_}
 use native.Mathlib.Omega.{arith}
 use lib.Dec.{leb}
 use lib.ListN.{length}
@@ -23,12 +22,12 @@ use Rattle.monitor.specs.declared.session.Flag.the-variants as flag
 use Rattle.monitor.specs.declared.feed.Fed.{Fed}
 use Rattle.monitor.specs.declared.run.Ran.{Ran}
 use Rattle.monitor.specs.Open.{then, opening, begun, zero-session, with-session, opened}
-use Rattle.monitor.specs.Session.{FlagFits, Sound}
+use Rattle.monitor.specs.Session.{FlagFits}
 use Rattle.monitor.specs.Feed as feed
-use Rattle.monitor.specs.Feed.{Feeds, passed}
+use Rattle.monitor.specs.Feed.{Feeds}
 use Rattle.monitor.specs.Laws.{Proper, place-of}
 use Rattle.monitor.specs.Run as run
-use Rattle.monitor.specs.Run.{limit-test, events-test, buffer-test, traced, run-test, RunTo, Runs}
+use Rattle.monitor.specs.Run.{limit-test, events-test, buffer-test, traced, run-test, Runs}
 use Rattle.monitor.proofs.Laws.{fed-sound}
 use Rattle.doors.specs.Layout.{flag-word}
 

@@ -1,15 +1,14 @@
 -- A session and the words and bytes that it is: what goes in comes out, both ways. Assumes nothing.
-use mathlib.Core.Path.{_≡_, refl, sym, ap, _∙_}
+use mathlib.Core.Path.{_≡_, sym, ap, _∙_}
 use mathlib.Core.List.{List, [], _∷_, _++_, append-assoc, append-nil}
-use Prim.Native.Nat.{ℕ, suc, _+_, _≤_, _<_}
-use native.Mathlib.Nat.{le-refl}
+use Prim.Native.Nat.{ℕ, _+_, _≤_}
 use native.Mathlib.Omega.{arith}
 use lib.ListN.{length, getD, take, drop, length-append, take-append-drop}
 use lib.Seq.{take-at, drop-at, getD-append-add, drop-cons, take-add, take-all, length-take-le}
 use Rattle.monitor.specs.declared.session.Session.{Session}
 use Rattle.house.specs.File.{front}
 use Rattle.doors.specs.Layout.{session-words, session-bytes, flag-word, flag-in, words-of, bytes-of, session-in}
-use Rattle.doors.specs.Laws.{Sized, ComesOut, SessionBack, SessionLies, WordsBack, BytesBack, WordsKept, BytesKept}
+use Rattle.doors.specs.Laws.{Sized, SessionBack, SessionLies, WordsBack, BytesBack, WordsKept, BytesKept}
 use Rattle.doors.proofs.Layouts.{flag-kept, flag-back}
 
 -- FROM MEMORY TO A SESSION AND BACK

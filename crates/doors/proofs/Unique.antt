@@ -1,7 +1,6 @@
 -- Of one input each function has one answer, and leaves one content of each memory. Assumes nothing.
 use mathlib.Core.Path.{_≡_, refl, sym, ap, _∙_}
 use mathlib.Core.Bool.{Bool, true, false}
-use mathlib.Core.List.{List}
 use Prim.Native.Nat.{ℕ}
 use Rattle.table.proofs.Checks.{clash}
 use Rattle.monitor.specs.declared.session.Opened.{Opened}
@@ -13,7 +12,6 @@ use Rattle.house.specs.File.{front}
 use Rattle.house.proofs.Laws.{one-reading}
 use Rattle.doors.specs.Layout.{words-of, bytes-of, session-in}
 use Rattle.doors.specs.Results.{test-results, run-results, read-results}
-use Rattle.doors.specs.Doors.{Opens, Feeding, Running, Read}
 use Rattle.doors.specs.Doors as doors
 use Rattle.doors.specs.Laws.{OneOpening, OneFeeding, OneRunning, OneRead}
 

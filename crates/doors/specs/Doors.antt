@@ -1,9 +1,9 @@
 -- What each function of this crate answers and leaves in the memory lent to it, for every input. Its answer is false exactly when memory
 -- is shorter than its layout, and then nothing is written. What is longer keeps the rest. Assumes nothing.
 use mathlib.Core.Path.{_≡_}
-use mathlib.Core.Bool.{Bool, true, false, cond, _&&_}
+use mathlib.Core.Bool.{Bool, true, false, _&&_}
 use mathlib.Core.List.{List}
-use Prim.Native.Nat.{ℕ, _≤_}
+use Prim.Native.Nat.{ℕ}
 use lib.Dec.{leb}
 use lib.ListN.{length}
 use Rattle.monitor.specs.declared.session.Opened.{Opened}

@@ -7,14 +7,6 @@ use native.Mathlib.Omega.{arith}
 use borrow.Author.Needs.{needs}
 use Rattle.doors.proofs.rillmoth_open.Statement.{statement}
 use Rattle.doors.proofs.rillmoth_open.Tie as tie
-use Rattle.doors.proofs.rillmoth_open.Reads as reads
-use Rattle.doors.proofs.rillmoth_open.Lts as lts
-use Rattle.doors.proofs.layout.put_bytes.Reads as put-bytes-reads
-use Rattle.doors.proofs.layout.put_words.Reads as put-words-reads
-use Rattle.doors.proofs.memory.copy_words.Reads as copy-words-reads
-use Rattle.doors.proofs.results.of_test.Reads as of-test-reads
-use Rattle.doors.proofs.roomy.Reads as roomy-reads
-use Rattle.monitor.proofs.session.open.Reads as open-reads
 
 roomy-requires : tie.Need-roomy-requires
 roomy-requires c κs = search needs

@@ -2,15 +2,9 @@
 use Rattle.doors.proofs.Answers.{told-put, reads-by}
 use borrow.Author.Tests.{lt-leb, le-leb}
 use Rattle.doors.specs.Doors as doors
-use native.Mathlib.Omega.{arith}
 use borrow.Author.Needs.{needs}
 use Rattle.doors.proofs.rillmoth_read.Statement.{statement}
 use Rattle.doors.proofs.rillmoth_read.Tie as tie
-use Rattle.doors.proofs.rillmoth_read.Reads as reads
-use Rattle.doors.proofs.rillmoth_read.Lts as lts
-use Rattle.doors.proofs.memory.copy_words.Reads as copy-words-reads
-use Rattle.doors.proofs.results.of_read.Reads as of-read-reads
-use Rattle.house.proofs.read.Reads as read-reads
 
 returns : tie.Need-returns
 returns c = doors.short (lt-leb _ _ (c .if1 .taken))

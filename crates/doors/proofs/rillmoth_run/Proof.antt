@@ -3,15 +3,9 @@ use Rattle.doors.proofs.Flags.{ran-small}
 use Rattle.doors.proofs.Answers.{told-put, runs-by}
 use borrow.Author.Tests.{lt-leb, le-leb}
 use Rattle.doors.specs.Doors as doors
-use native.Mathlib.Omega.{arith}
 use borrow.Author.Needs.{needs}
 use Rattle.doors.proofs.rillmoth_run.Statement.{statement}
 use Rattle.doors.proofs.rillmoth_run.Tie as tie
-use Rattle.doors.proofs.rillmoth_run.Reads as reads
-use Rattle.doors.proofs.rillmoth_run.Lts as lts
-use Rattle.doors.proofs.memory.copy_words.Reads as copy-words-reads
-use Rattle.doors.proofs.results.of_run.Reads as of-run-reads
-use Rattle.monitor.proofs.run.run.Reads as run-reads
 
 returns : tie.Need-returns
 returns c = doors.short (lt-leb _ _ (c .if1 .taken))

@@ -6,20 +6,15 @@ use Rattle.doors.specs.Layout.{flag-in}
 use Rattle.doors.proofs.Layouts.{flag-none, flag-some, flag-fits}
 use Rattle.doors.proofs.layout.flag_in.Statement.{statement}
 use Rattle.doors.proofs.layout.flag_in.Tie as tie
-use Rattle.doors.proofs.layout.flag_in.Reads as reads
-use Rattle.doors.proofs.layout.flag_in.Lts as lts
 
--- src/layout.rt:68:9
 returns : tie.Need-returns
 returns c =
     let e = sym (ap flag-in (c .if1 .taken) ∙ flag-none) in
     (e, flag-fits _ (c .before .args .word) e (omega arith))
 
--- src/layout.rt:70:15
 sub-t3 : tie.Need-sub-t3
 sub-t3 c = search needs
 
--- src/layout.rt:64:1
 returns-2 : tie.Need-returns-2
 returns-2 c =
     let e = sym (flag-some _ (c .if1 .left)) in

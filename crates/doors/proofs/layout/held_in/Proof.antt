@@ -7,8 +7,6 @@ use borrow.Author.Needs.{needs}
 use Rattle.doors.proofs.Copies.{Copied, copied-more, copied-all}
 use Rattle.doors.proofs.layout.held_in.Statement.{statement}
 use Rattle.doors.proofs.layout.held_in.Tie as tie
-use Rattle.doors.proofs.layout.held_in.Reads as reads
-use Rattle.doors.proofs.layout.held_in.Lts as lts
 
 abbrev Inv-loop : tie.InvT-loop
 Inv-loop bytes held₀ i₀ held i = Copied 32 bytes held₀ held i
@@ -16,31 +14,24 @@ Inv-loop bytes held₀ i₀ held i = Copied 32 bytes held₀ held i
 abbrev μ-loop : tie.MeasureT-loop
 μ-loop bytes held₀ i₀ held i = 32 - i
 
--- src/layout.rt:57:5
 loop-holds : tie.Need-loop-holds Inv-loop μ-loop
 loop-holds c = record { most = omega arith; size = length-replicate {A = ℕ} 32 0; is = refl }
 
--- src/layout.rt:58:19
 shared-slice-read-held : tie.Need-shared-slice-read-held Inv-loop μ-loop
 shared-slice-read-held c = search needs
 
--- src/layout.rt:58:9
 array-write-held : tie.Need-array-write-held Inv-loop μ-loop
 array-write-held c = search needs
 
--- src/layout.rt:59:9
 add-i : tie.Need-add-i Inv-loop μ-loop
 add-i c = search needs
 
--- src/layout.rt:57:5
 loop-less : tie.Need-loop-less Inv-loop μ-loop
 loop-less c = search needs
 
--- src/layout.rt:57:5
 loop-again : tie.Need-loop-again Inv-loop μ-loop
 loop-again c = let l = c .before .before .loop in copied-more (omega arith) (omega arith) (l .inv)
 
--- src/layout.rt:51:1
 returns : tie.Need-returns Inv-loop μ-loop
 returns c = copied-all (omega arith) (c .before .loop .inv)
 

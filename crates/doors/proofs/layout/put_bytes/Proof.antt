@@ -2,13 +2,9 @@
 use mathlib.Core.Path.{_≡_}
 use lib.ListN.{length}
 use Rattle.doors.proofs.Layouts.{bytes-put}
-use native.Mathlib.Omega.{arith}
 use borrow.Author.Needs.{needs}
 use Rattle.doors.proofs.layout.put_bytes.Statement.{statement}
 use Rattle.doors.proofs.layout.put_bytes.Tie as tie
-use Rattle.doors.proofs.layout.put_bytes.Reads as reads
-use Rattle.doors.proofs.layout.put_bytes.Lts as lts
-use Rattle.doors.proofs.memory.copy_bytes.Reads as copy-bytes-reads
 
 copy-bytes-requires : tie.Need-copy-bytes-requires
 copy-bytes-requires c κs = search needs

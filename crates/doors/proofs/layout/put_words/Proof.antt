@@ -2,14 +2,9 @@
 use mathlib.Core.Path.{_≡_}
 use lib.ListN.{length}
 use Rattle.doors.proofs.Layouts.{words-put}
-use native.Mathlib.Omega.{arith}
 use borrow.Author.Needs.{needs}
 use Rattle.doors.proofs.layout.put_words.Statement.{statement}
 use Rattle.doors.proofs.layout.put_words.Tie as tie
-use Rattle.doors.proofs.layout.put_words.Reads as reads
-use Rattle.doors.proofs.layout.put_words.Lts as lts
-use Rattle.doors.proofs.layout.flag_word.Reads as flag-word-reads
-use Rattle.doors.proofs.memory.copy_words.Reads as copy-words-reads
 
 flag-word-requires : tie.Need-flag-word-requires
 flag-word-requires c κs = search needs

@@ -7,8 +7,6 @@ use borrow.Author.Needs.{needs}
 use Rattle.doors.proofs.Copies.{Copied, copied-more, copied-all}
 use Rattle.doors.proofs.layout.rows_in.Statement.{statement}
 use Rattle.doors.proofs.layout.rows_in.Tie as tie
-use Rattle.doors.proofs.layout.rows_in.Reads as reads
-use Rattle.doors.proofs.layout.rows_in.Lts as lts
 
 abbrev Inv-loop : tie.InvT-loop
 Inv-loop bytes rows₀ i₀ rows i = Copied 2048 bytes rows₀ rows i
@@ -16,31 +14,24 @@ Inv-loop bytes rows₀ i₀ rows i = Copied 2048 bytes rows₀ rows i
 abbrev μ-loop : tie.MeasureT-loop
 μ-loop bytes rows₀ i₀ rows i = 2048 - i
 
--- src/layout.rt:43:5
 loop-holds : tie.Need-loop-holds Inv-loop μ-loop
 loop-holds c = record { most = omega arith; size = length-replicate {A = ℕ} 2048 0; is = refl }
 
--- src/layout.rt:44:19
 shared-slice-read-rows : tie.Need-shared-slice-read-rows Inv-loop μ-loop
 shared-slice-read-rows c = search needs
 
--- src/layout.rt:44:9
 array-write-rows : tie.Need-array-write-rows Inv-loop μ-loop
 array-write-rows c = search needs
 
--- src/layout.rt:45:9
 add-i : tie.Need-add-i Inv-loop μ-loop
 add-i c = search needs
 
--- src/layout.rt:43:5
 loop-less : tie.Need-loop-less Inv-loop μ-loop
 loop-less c = search needs
 
--- src/layout.rt:43:5
 loop-again : tie.Need-loop-again Inv-loop μ-loop
 loop-again c = let l = c .before .before .loop in copied-more (omega arith) (omega arith) (l .inv)
 
--- src/layout.rt:37:1
 returns : tie.Need-returns Inv-loop μ-loop
 returns c = copied-all (omega arith) (c .before .loop .inv)
 

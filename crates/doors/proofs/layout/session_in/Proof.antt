@@ -1,16 +1,9 @@
 -- `layout::session_in` meets its contract. Assumes nothing.
 use Rattle.doors.proofs.Layouts.{held-part}
 use Rattle.doors.specs.Layout.{session-in}
-use native.Mathlib.Omega.{arith}
 use borrow.Author.Needs.{needs}
 use Rattle.doors.proofs.layout.session_in.Statement.{statement}
 use Rattle.doors.proofs.layout.session_in.Tie as tie
-use Rattle.doors.proofs.layout.session_in.Reads as reads
-use Rattle.doors.proofs.layout.session_in.Lts as lts
-use Rattle.doors.proofs.layout.flag_in.Reads as flag-in-reads
-use Rattle.doors.proofs.layout.held_in.Reads as held-in-reads
-use Rattle.doors.proofs.layout.rows_in.Reads as rows-in-reads
-use Rattle.doors.proofs.layout.set_in.Reads as set-in-reads
 
 set-in-requires : tie.Need-set-in-requires
 set-in-requires c κs = search needs

@@ -7,8 +7,6 @@ use borrow.Author.Needs.{needs}
 use Rattle.doors.proofs.Copies.{Copied, copied-more, copied-all}
 use Rattle.doors.proofs.layout.set_in.Statement.{statement}
 use Rattle.doors.proofs.layout.set_in.Tie as tie
-use Rattle.doors.proofs.layout.set_in.Reads as reads
-use Rattle.doors.proofs.layout.set_in.Lts as lts
 
 abbrev Inv-loop : tie.InvT-loop
 Inv-loop words set₀ i₀ set i = Copied 264 words set₀ set i
@@ -16,39 +14,30 @@ Inv-loop words set₀ i₀ set i = Copied 264 words set₀ set i
 abbrev μ-loop : tie.MeasureT-loop
 μ-loop words set₀ i₀ set i = 264 - i
 
--- src/layout.rt:30:5
 loop-holds : tie.Need-loop-holds Inv-loop μ-loop
 loop-holds c = record { most = omega arith; size = length-replicate {A = ℕ} 264 0; is = refl }
 
--- src/layout.rt:31:18
 mul-set : tie.Need-mul-set Inv-loop μ-loop
 mul-set c = search needs
 
--- src/layout.rt:31:18
 shared-slice-read-set : tie.Need-shared-slice-read-set Inv-loop μ-loop
 shared-slice-read-set c = search needs
 
--- src/layout.rt:31:9
 mul-set-2 : tie.Need-mul-set-2 Inv-loop μ-loop
 mul-set-2 c = search needs
 
--- src/layout.rt:31:9
 array-write-set : tie.Need-array-write-set Inv-loop μ-loop
 array-write-set c = search needs
 
--- src/layout.rt:32:9
 add-i : tie.Need-add-i Inv-loop μ-loop
 add-i c = search needs
 
--- src/layout.rt:30:5
 loop-less : tie.Need-loop-less Inv-loop μ-loop
 loop-less c = search needs
 
--- src/layout.rt:30:5
 loop-again : tie.Need-loop-again Inv-loop μ-loop
 loop-again c = let l = c .before .before .loop in copied-more (omega arith) (omega arith) (l .inv)
 
--- src/layout.rt:24:1
 returns : tie.Need-returns Inv-loop μ-loop
 returns c = copied-all (omega arith) (c .before .loop .inv)
 

@@ -1,13 +1,7 @@
 -- `results::of_read` meets its contract. Assumes nothing.
-use native.Mathlib.Omega.{arith}
 use borrow.Author.Needs.{needs}
 use Rattle.doors.proofs.results.of_read.Statement.{statement}
 use Rattle.doors.proofs.results.of_read.Tie as tie
-use Rattle.doors.proofs.results.of_read.Reads as reads
-use Rattle.doors.proofs.results.of_read.Lts as lts
-use Rattle.doors.proofs.results.held.Reads as held-reads
-use Rattle.doors.proofs.results.source_number.Reads as source-number-reads
-use Rattle.doors.proofs.results.told_of.Reads as told-of-reads
 
 told-of-requires : tie.Need-told-of-requires
 told-of-requires c κs = search needs

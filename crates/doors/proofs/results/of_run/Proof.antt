@@ -1,12 +1,7 @@
 -- `results::of_run` meets its contract. Assumes nothing.
-use native.Mathlib.Omega.{arith}
 use borrow.Author.Needs.{needs}
 use Rattle.doors.proofs.results.of_run.Statement.{statement}
 use Rattle.doors.proofs.results.of_run.Tie as tie
-use Rattle.doors.proofs.results.of_run.Reads as reads
-use Rattle.doors.proofs.results.of_run.Lts as lts
-use Rattle.doors.proofs.layout.flag_word.Reads as flag-word-reads
-use Rattle.doors.proofs.results.told_test.Reads as told-test-reads
 
 told-test-requires : tie.Need-told-test-requires
 told-test-requires c κs = search needs

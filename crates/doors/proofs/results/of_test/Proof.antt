@@ -1,11 +1,7 @@
 -- `results::of_test` meets its contract. Assumes nothing.
-use native.Mathlib.Omega.{arith}
 use borrow.Author.Needs.{needs}
 use Rattle.doors.proofs.results.of_test.Statement.{statement}
 use Rattle.doors.proofs.results.of_test.Tie as tie
-use Rattle.doors.proofs.results.of_test.Reads as reads
-use Rattle.doors.proofs.results.of_test.Lts as lts
-use Rattle.doors.proofs.results.told_test.Reads as told-test-reads
 
 told-test-requires : tie.Need-told-test-requires
 told-test-requires c κs = search needs
