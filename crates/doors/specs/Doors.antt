@@ -34,13 +34,13 @@ pub data Feeding (words bytes : List ℕ) (b : ℕ) (told : List ℕ) : Bool →
   fed : {r : Fed} → roomy words bytes told ≡ true → Feeds (session-in words bytes) b r
       → Feeding words bytes b told true (front words (words-of (r .session))) (front bytes (bytes-of (r .session))) (front told (test-results (r .test)))
 
--- A run.
+-- A run: the results are at the start of their memory. What is in the result buffer is the monitor's part.
 pub data Running (rows : List ℕ) (s i o B c : ℕ) (trace out told : List ℕ) : Bool → List ℕ → List ℕ → Type 0 where
   short : leb run-size (length told) ≡ false → Running rows s i o B c trace out told false out told
   ran : {r : Ran} {out′ : List ℕ} → leb run-size (length told) ≡ true → Runs rows s i o B c trace out r out′
       → Running rows s i o B c trace out told true out′ (front told (run-results r))
 
--- A read.
+-- A read, likewise; what is in the two buffers is the reader's part.
 pub data Read (file rows events told : List ℕ) : Bool → List ℕ → List ℕ → List ℕ → Type 0 where
   short : leb read-size (length told) ≡ false → Read file rows events told false rows events told
   read : {r : Reading} {rows′ events′ : List ℕ} → leb read-size (length told) ≡ true → Answers file rows events r rows′ events′

@@ -12,7 +12,7 @@ pub(crate) const WORDS: usize = 267;
 
 pub(crate) const BYTES: usize = 2085;
 
-// Where the parts begin.
+// Where the held inputs begin, and the counts and bounds after them; and the counts of events, after the set.
 const HELD: usize = 2048;
 
 const COUNTS: usize = 2080;
@@ -21,6 +21,7 @@ const SEEN: usize = 264;
 
 // READING
 
+// The set, of the words from the start on.
 fn set_in(words: &[u64]) -> [u64; 264]
     requires { ⌜ 264 ≤ length (now words) ⌝ }
     ensures { λ r. ⌜ r ≡ take 264 (now (words .entry)) ⌝ }
@@ -34,6 +35,7 @@ fn set_in(words: &[u64]) -> [u64; 264]
     set
 }
 
+// The rows, of the bytes from the start on.
 fn rows_in(bytes: &[u8]) -> [u8; 2048]
     requires { ⌜ 2048 ≤ length (now bytes) ⌝ }
     ensures { λ r. ⌜ r ≡ take 2048 (now (bytes .entry)) ⌝ }
@@ -61,6 +63,7 @@ fn held_in(bytes: &[u8]) -> [u8; 32]
     held
 }
 
+// The flag that a word is. What it was made of fits one word again.
 fn flag_in(word: u64) -> Flag
     ensures { λ r. ⌜ r ≡ flag-in word ⌝ }
     ensures { λ r. ⌜ flag-word r < 2 ^ 64 ⌝ }

@@ -1,13 +1,15 @@
 // The monitor and the reader of house files for programs in other languages: numbers and lent slices only. A slice is passed as its
-// address and its count. Every function takes any input and answers false exactly when memory lent for a session or for results is
-// shorter than its layout; then nothing is written. specs/Layout.antt says how a session lies in memory, specs/Results.antt what the
-// results are, and specs/Doors.antt what each function does.
-ghost use Rattle.doors.specs.Doors.{Opens, Feeding, Running, Read};
-ghost use Rattle.doors.specs.Layout.{session-words, session-bytes};
-ghost use Rattle.doors.specs.Results.{test-size};
+// address and its count of elements. The address is not null, also where the count is 0, and no slice that is written to lies over
+// another. Nothing else is asked: every function answers every input. It answers false exactly when memory lent for a session or for
+// results is shorter than its layout, and then nothing is written; a refusal is an answer of true, with its number in the results.
+// specs/Layout.antt says how a session lies in memory, specs/Results.antt what the results are, and specs/Doors.antt what each
+// function does.
+ghost use mathlib.Core.Path.{_≡_};
 ghost use mathlib.Core.Bool.{_&&_};
 ghost use lib.Dec.{leb};
-ghost use mathlib.Core.Path.{_≡_};
+ghost use Rattle.doors.specs.Layout.{session-words, session-bytes};
+ghost use Rattle.doors.specs.Results.{test-size};
+ghost use Rattle.doors.specs.Doors.{Opens, Feeding, Running, Read};
 use house;
 use monitor::feed;
 use monitor::run;
@@ -17,6 +19,7 @@ mod layout;
 mod memory;
 mod results;
 
+// Whether memory of these lengths has room for a session and for the results of opening and feeding.
 fn roomy(words: usize, bytes: usize, told: usize) -> bool
     ensures { λ r. ⌜ r ≡ (leb session-words words && (leb session-bytes bytes && leb test-size told)) ⌝ }
 {
@@ -29,7 +32,7 @@ fn roomy(words: usize, bytes: usize, told: usize) -> bool
     results::TEST <= told
 }
 
-// Opens a session in the memory lent.
+// Opens a session in the memory lent. Where it is refused, a session of zeros only lies there.
 #[no_mangle]
 pub extern "C" fn rillmoth_open(
     rows: &[u8],

@@ -20,6 +20,7 @@ pub(crate) const RUN: usize = 4;
 
 pub(crate) const READ: usize = 11;
 
+// What is not refused has number 0, and places 0.
 fn nothing() -> Told
     ensures { λ r. ⌜ r ≡ told-at 0 0 ⌝ }
 {
@@ -30,6 +31,7 @@ fn nothing() -> Told
     }
 }
 
+// The number and the places of a test.
 fn told_test(test: Test) -> Told
     ensures { λ r. ⌜ r ≡ told-test test ⌝ }
 {
@@ -39,6 +41,7 @@ fn told_test(test: Test) -> Told
     }
 }
 
+// The same of a reading.
 fn told_of(reading: Reading) -> Told
     ensures { λ r. ⌜ r ≡ told-of reading ⌝ }
 {
@@ -67,6 +70,7 @@ fn held(reading: Reading) -> Contents
     }
 }
 
+// Source 0 means that rows follow, 1 the standard box.
 fn source_number(source: Source) -> u64
     ensures { λ r. ⌜ r ≡ source-number source ⌝ }
 {
@@ -76,6 +80,7 @@ fn source_number(source: Source) -> u64
     }
 }
 
+// The results of opening and feeding.
 pub(crate) fn of_test(test: Test) -> [u64; 3]
     ensures { λ r. ⌜ r ≡ test-results test ⌝ }
 {
@@ -83,6 +88,7 @@ pub(crate) fn of_test(test: Test) -> [u64; 3]
     [t.number as u64, t.place as u64, t.second as u64]
 }
 
+// The results of a run.
 pub(crate) fn of_run(ran: Ran) -> [u64; 4]
     requires { ⌜ flag-word (ran .flag) < 2 ^ 64 ⌝ }
     ensures { λ r. ⌜ r ≡ run-results ran ⌝ }
@@ -94,6 +100,7 @@ pub(crate) fn of_run(ran: Ran) -> [u64; 4]
     [t.number as u64, t.place as u64, t.second as u64, f]
 }
 
+// The results of a read. A refused one tells nothing of the file but its refusal.
 pub(crate) fn of_read(reading: Reading) -> [u64; 11]
     ensures { λ r. ⌜ r ≡ read-results reading ⌝ }
 {
