@@ -1,0 +1,80 @@
+-- Laws of the layout of a session. Assumes nothing.
+use mathlib.Core.Path.{_≡_, refl, sym, _∙_}
+use mathlib.Core.List.{List, [], _∷_, _++_}
+use Prim.Native.Nat.{ℕ, zero, suc, _+_, _-_, _^_, _≤_, _<_}
+use native.Mathlib.Numerals.{add-one}
+use native.Mathlib.Omega.{arith}
+use lib.ListN.{length, take, drop, length-append, length-drop}
+use native.Mathlib.Nat.{le-refl}
+use lib.Seq.{paste, take-take, length-take-le}
+use Rattle.monitor.specs.Laws.{Proper}
+use Rattle.monitor.specs.declared.session.Session.{Session}
+use Rattle.monitor.specs.declared.session.Flag.{Flag}
+use Rattle.monitor.specs.declared.session.Flag.the-variants as flag
+use Rattle.doors.specs.Layout.{session-words, session-bytes, flag-word, flag-in, words-of, bytes-of, session-in}
+use Rattle.house.specs.File.{front}
+use Rattle.doors.proofs.Copies.{paste-front, front-more}
+
+-- FLAGS
+
+pub flag-none : flag-in 0 ≡ flag.None
+unfolding flag-in
+flag-none = refl
+
+pub flag-some : (n : ℕ) → (n ≡ 0 → ⊥) → flag-in n ≡ flag.At (n - 1)
+unfolding flag-in
+flag-some zero h = absurd (h refl)
+flag-some (suc n) h = let e : suc n - 1 ≡ n = omega arith in rw e
+
+pub flag-at : {n : ℕ} (f : Flag) → f ≡ flag.At n → flag-word f ≡ n + 1
+unfolding flag-word
+flag-at {n} f e = rw e
+
+-- what is put in a word is read from it
+pub flag-kept : (n : ℕ) → flag-word (flag-in n) ≡ n
+unfolding flag-word flag-in
+flag-kept zero = refl
+flag-kept (suc n) = add-one n
+
+pub flag-back : (f : Flag) → flag-in (flag-word f) ≡ f
+unfolding flag-word flag-in
+flag-back flag.None = refl
+flag-back (flag.At place) = rw add-one
+
+pub flag-fits : (f : Flag) (n : ℕ) → f ≡ flag-in n → n < 2 ^ 64 → flag-word f < 2 ^ 64
+flag-fits f n e h = rw (e, flag-kept n) h
+
+-- READING
+
+pub held-part : (b : List ℕ) → take 32 (take 32 (drop 2048 b)) ≡ take 32 (drop 2048 b)
+held-part b = take-take 32 32 (drop 2048 b) (le-refl 32)
+
+pub proper-in : (w b : List ℕ) → session-words ≤ length w → session-bytes ≤ length b → Proper (session-in w b)
+unfolding session-in
+proper-in w b h k =
+    record {
+      set = length-take-le 264 w (omega arith);
+      held = length-take-le 32 (drop 2048 b) (rw length-drop (omega arith));
+    }
+
+-- WRITING
+
+-- the set, and then what was seen
+pub words-put : (d x y : List ℕ) (s : Session) (f : ℕ) → length (s .set) ≡ 264 → f ≡ flag-word (s .flag)
+    → x ≡ paste d 0 (s .set) (length (s .set)) → y ≡ paste x 264 (s .events ∷ s .arrived ∷ f ∷ []) 3 → y ≡ front d (words-of s)
+unfolding words-of
+words-put d x y s f n e p q =
+    q
+    ∙ rw (p, paste-front d (s .set), e)
+    (front-more d (s .set) (s .events ∷ s .arrived ∷ flag-word (s .flag) ∷ []) 264 (sym n))
+
+-- the rows, then the held inputs, then the counts and bounds
+pub bytes-put : (d x y z : List ℕ) (s : Session) → length (s .rows) ≡ 2048 → length (s .held) ≡ 32
+    → x ≡ paste d 0 (s .rows) (length (s .rows)) → y ≡ paste x 2048 (s .held) (length (s .held))
+    → z ≡ paste y 2080 (s .states ∷ s .inputs ∷ s .outputs ∷ s .waiting ∷ s .losses ∷ []) 5 → z ≡ front d (bytes-of s)
+unfolding bytes-of
+bytes-put d x y z s n m p q r =
+    let counts = s .states ∷ s .inputs ∷ s .outputs ∷ s .waiting ∷ s .losses ∷ [] in
+    let two : y ≡ front d (s .rows ++ s .held) = q ∙ rw (p, paste-front d (s .rows)) (front-more d (s .rows) (s .held) 2048 (sym n)) in
+    let l : 2080 ≡ length (s .rows ++ s .held) = simp length-append (omega arith) in
+    r ∙ rw two (front-more d (s .rows ++ s .held) counts 2080 l)

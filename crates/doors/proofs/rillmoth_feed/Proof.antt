@@ -1,0 +1,84 @@
+-- `rillmoth_feed` meets its contract. Assumes nothing.
+use Rattle.doors.proofs.Layouts.{proper-in}
+use Rattle.doors.proofs.Flags.{fed-small}
+use Rattle.doors.proofs.Answers.{room, told-put, feeds-by}
+use Rattle.table.proofs.Checks.{passed, failed}
+use Rattle.doors.specs.Doors as doors
+use native.Mathlib.Omega.{arith}
+use borrow.Author.Needs.{needs}
+use Rattle.doors.proofs.rillmoth_feed.Statement.{statement}
+use Rattle.doors.proofs.rillmoth_feed.Tie as tie
+
+roomy-requires : tie.Need-roomy-requires
+roomy-requires c κs = search needs
+
+returns : tie.Need-returns
+returns c = doors.short (failed _ (c .before .roomy .ensures) (c .if1 .taken))
+
+session-in-requires : tie.Need-session-in-requires
+session-in-requires c κs =
+    let r = room (c .before .before .before .before .before .before .before .args .words .now) (c .before .before .before .before .before .before .before .args .bytes .now) (c .before .before .before .before .before .before .before .args .told .now) (passed _ (c .before .before .before .roomy .ensures) (c .before .before .if1 .left)) in
+    (r .words, r .bytes)
+
+feed-requires : tie.Need-feed-requires
+feed-requires c κs = search needs
+
+put-words-requires : tie.Need-put-words-requires
+put-words-requires c κs =
+    let r = room (c .before .before .before .before .before .before .before .before .before .before .before .args .words .now) (c .before .before .before .before .before .before .before .before .before .before .before .args .bytes .now) (c .before .before .before .before .before .before .before .before .before .before .before .args .told .now) (passed _ (c .before .before .before .before .before .before .before .roomy .ensures) (c .before .before .before .before .before .before .if1 .left)) in
+    let e = c .before .before .before .session-in .ensures in
+    let p = proper-in (c .before .before .before .before .before .before .before .before .before .before .before .args .words .now) (c .before .before .before .before .before .before .before .before .before .before .before .args .bytes .now) (r .words) (r .bytes) in
+    (r .words, fed-small (c .before .before .before .session-in .result) (c .before .before .before .before .before .before .before .before .before .before .before .args .byte) (c .before .before .feed .result) (rw (e .0) p) (e .1) (c .before .before .feed .ensures))
+
+put-bytes-requires : tie.Need-put-bytes-requires
+put-bytes-requires c κs =
+    let r = room (c .before .before .before .before .before .before .before .before .before .before .before .before .before .before .before .args .words .now) (c .before .before .before .before .before .before .before .before .before .before .before .before .before .before .before .args .bytes .now) (c .before .before .before .before .before .before .before .before .before .before .before .before .before .before .before .args .told .now) (passed _ (c .before .before .before .before .before .before .before .before .before .before .before .roomy .ensures) (c .before .before .before .before .before .before .before .before .before .before .if1 .left)) in
+    r .bytes
+
+of-test-requires : tie.Need-of-test-requires
+of-test-requires c κs = search needs
+
+slice-aggregate-copy-words : tie.Need-slice-aggregate-copy-words
+slice-aggregate-copy-words c = search needs
+
+copy-words-requires : tie.Need-copy-words-requires
+copy-words-requires c κs =
+    let r = room (c .before .before .before .before .before .before .before .before .before .before .before .before .before .before .before .before .before .before .before .before .before .args .words .now) (c .before .before .before .before .before .before .before .before .before .before .before .before .before .before .before .before .before .before .before .before .before .args .bytes .now) (c .before .before .before .before .before .before .before .before .before .before .before .before .before .before .before .before .before .before .before .before .before .args .told .now) (passed _ (c .before .before .before .before .before .before .before .before .before .before .before .before .before .before .before .before .before .roomy .ensures) (c .before .before .before .before .before .before .before .before .before .before .before .before .before .before .before .before .if1 .left)) in
+    omega (arith, r .told)
+
+same-length : tie.Need-same-length
+same-length c = search needs
+
+same-length-2 : tie.Need-same-length-2
+same-length-2 c = search needs
+
+same-length-3 : tie.Need-same-length-3
+same-length-3 c = search needs
+
+returns-2 : tie.Need-returns-2
+returns-2 c =
+    feeds-by
+    (c .before .before .before .before .before .before .before .before .before .before .before .before .before .before .before .feed .result)
+    (passed _ (c .before .before .before .before .before .before .before .before .before .before .before .before .before .before .before .before .before .before .before .before .roomy .ensures) (c .before .before .before .before .before .before .before .before .before .before .before .before .before .before .before .before .before .before .before .if1 .left))
+    (rw (c .before .before .before .before .before .before .before .before .before .before .before .before .before .before .before .before .session-in .ensures .0) at (c .before .before .before .before .before .before .before .before .before .before .before .before .before .before .before .feed .ensures))
+    (c .before .before .before .before .before .before .before .before .before .before .before .before .put-words .ensures)
+    (c .before .before .before .before .before .before .before .before .put-bytes .ensures)
+    (told-put _ _ _ _ (c .before .before .before .before .before .of-test .ensures) (c .before .before .copy-words .ensures))
+
+pub rillmoth-feed-spec : {M : Type 1} → statement M
+rillmoth-feed-spec =
+    tie.close
+    (tie.spec
+    roomy-requires
+    returns
+    session-in-requires
+    feed-requires
+    put-words-requires
+    put-bytes-requires
+    of-test-requires
+    slice-aggregate-copy-words
+    copy-words-requires
+    same-length
+    same-length-2
+    same-length-3
+    returns-2)

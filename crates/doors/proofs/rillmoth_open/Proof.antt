@@ -1,0 +1,75 @@
+-- `rillmoth_open` meets its contract. Assumes nothing.
+use Rattle.doors.proofs.Flags.{opened-small}
+use Rattle.doors.proofs.Answers.{room, told-put, opens-by}
+use Rattle.table.proofs.Checks.{passed, failed}
+use Rattle.doors.specs.Doors as doors
+use native.Mathlib.Omega.{arith}
+use borrow.Author.Needs.{needs}
+use Rattle.doors.proofs.rillmoth_open.Statement.{statement}
+use Rattle.doors.proofs.rillmoth_open.Tie as tie
+
+roomy-requires : tie.Need-roomy-requires
+roomy-requires c κs = search needs
+
+returns : tie.Need-returns
+returns c = doors.short (failed _ (c .before .roomy .ensures) (c .if1 .taken))
+
+open-requires : tie.Need-open-requires
+open-requires c κs = search needs
+
+put-words-requires : tie.Need-put-words-requires
+put-words-requires c κs =
+    let r = room (c .before .before .before .before .before .before .before .before .before .args .words .now) (c .before .before .before .before .before .before .before .before .before .args .bytes .now) (c .before .before .before .before .before .before .before .before .before .args .told .now) (passed _ (c .before .before .before .before .roomy .ensures) (c .before .before .before .if1 .left)) in
+    (r .words, rw (c .before .before .«open» .ensures) (opened-small _ _ _ _ _ _))
+
+put-bytes-requires : tie.Need-put-bytes-requires
+put-bytes-requires c κs =
+    let r = room (c .before .before .before .before .before .before .before .before .before .before .before .before .before .args .words .now) (c .before .before .before .before .before .before .before .before .before .before .before .before .before .args .bytes .now) (c .before .before .before .before .before .before .before .before .before .before .before .before .before .args .told .now) (passed _ (c .before .before .before .before .before .before .before .before .roomy .ensures) (c .before .before .before .before .before .before .before .if1 .left)) in
+    r .bytes
+
+of-test-requires : tie.Need-of-test-requires
+of-test-requires c κs = search needs
+
+slice-aggregate-copy-words : tie.Need-slice-aggregate-copy-words
+slice-aggregate-copy-words c = search needs
+
+copy-words-requires : tie.Need-copy-words-requires
+copy-words-requires c κs =
+    let r = room (c .before .before .before .before .before .before .before .before .before .before .before .before .before .before .before .before .before .before .before .args .words .now) (c .before .before .before .before .before .before .before .before .before .before .before .before .before .before .before .before .before .before .before .args .bytes .now) (c .before .before .before .before .before .before .before .before .before .before .before .before .before .before .before .before .before .before .before .args .told .now) (passed _ (c .before .before .before .before .before .before .before .before .before .before .before .before .before .before .roomy .ensures) (c .before .before .before .before .before .before .before .before .before .before .before .before .before .if1 .left)) in
+    omega (arith, r .told)
+
+same-length : tie.Need-same-length
+same-length c = search needs
+
+same-length-2 : tie.Need-same-length-2
+same-length-2 c = search needs
+
+same-length-3 : tie.Need-same-length-3
+same-length-3 c = search needs
+
+returns-2 : tie.Need-returns-2
+returns-2 c =
+    opens-by
+    (c .before .before .before .before .before .before .before .before .before .before .before .before .before .before .before .«open» .result)
+    (passed _ (c .before .before .before .before .before .before .before .before .before .before .before .before .before .before .before .before .before .roomy .ensures) (c .before .before .before .before .before .before .before .before .before .before .before .before .before .before .before .before .if1 .left))
+    (c .before .before .before .before .before .before .before .before .before .before .before .before .before .before .before .«open» .ensures)
+    (c .before .before .before .before .before .before .before .before .before .before .before .before .put-words .ensures)
+    (c .before .before .before .before .before .before .before .before .put-bytes .ensures)
+    (told-put _ _ _ _ (c .before .before .before .before .before .of-test .ensures) (c .before .before .copy-words .ensures))
+
+pub rillmoth-open-spec : {M : Type 1} → statement M
+rillmoth-open-spec =
+    tie.close
+    (tie.spec
+    roomy-requires
+    returns
+    open-requires
+    put-words-requires
+    put-bytes-requires
+    of-test-requires
+    slice-aggregate-copy-words
+    copy-words-requires
+    same-length
+    same-length-2
+    same-length-3
+    returns-2)

@@ -1,0 +1,4 @@
+pub mod Layout
+pub mod Results
+pub mod Doors
+pub mod Laws
