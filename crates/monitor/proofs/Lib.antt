@@ -6,6 +6,7 @@ mod Steps
 mod Padded
 mod Clauses
 mod Lines
+mod Closed
 mod Feeding
 mod Openings
 mod Opened

@@ -2,7 +2,8 @@
 ghost use mathlib.Core.Path.{_≡_};
 ghost use Prim.Native.Nat.{ℕ, _+_, _≤_, _<_, min};
 ghost use lib.ListN.{length, take};
-ghost use Rattle.monitor.specs.Feed.{Forgot, Held};
+ghost use Rattle.monitor.specs.Feed.{Forgot, Held, Shows};
+ghost use Rattle.monitor.specs.Sets.{ClosedUnder};
 ghost use Rattle.monitor.specs.Event.{Arrival, Departure};
 use crate::sweep;
 
@@ -58,6 +59,28 @@ pub(crate) fn arrived(
     let top = grown(n, most);
     sweep::shift(&mut *set, top);
     sweep::sweep(&mut *set, rows, width, &*held, top, c);
+    top
+}
+
+// The same where the set is closed under takes and losses: only the newest input can be newly taken or lost.
+pub(crate) fn arrived_closed(
+    set: &mut [u64; 264],
+    held: &mut [u8; 32],
+    rows: &[u8],
+    width: u8,
+    most: usize,
+    c: usize,
+    n: usize,
+    a: u8,
+) -> usize
+    requires { ⌜ (n ≤ most) × (0 < most) × (most ≤ 32) × (length (now set) ≡ 264) × (length (now held) ≡ 32) ⌝ }
+    requires { ⌜ Shows (take n (now held)) (now held) × ClosedUnder (now rows) width c (take n (now held)) n (now set) ⌝ }
+    ensures { λ top. ⌜ Arrival (now (rows .entry)) width most c n a top (now (set .entry)) (now (held .entry)) (now (set .exit)) (now (held .exit)) ⌝ }
+{
+    hold(&mut *held, n, most, a);
+    let top = grown(n, most);
+    sweep::shift(&mut *set, top);
+    sweep::lower(&mut *set, rows, width, 0, a, c);
     top
 }
 

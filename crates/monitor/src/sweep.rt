@@ -59,7 +59,7 @@ fn joined(row: [u64; 8], above: [u64; 8], taken: u64, c: usize) -> [u64; 8]
 }
 
 // Takes and losses from the level of w + 1 waiting are put into that of w; the input at the head of the line is a.
-fn lower(set: &mut [u64; 264], rows: &[u8], width: u8, w: usize, a: u8, c: usize)
+pub(crate) fn lower(set: &mut [u64; 264], rows: &[u8], width: u8, w: usize, a: u8, c: usize)
     requires { ⌜ (w < 32) × (length (now set) ≡ 264) ⌝ }
     ensures { λ _. ⌜ Lowered (now (rows .entry)) width c a w (now (set .entry)) (now (set .exit)) ⌝ }
     ensures { λ _. ⌜ length (now (set .exit)) ≡ 264 ⌝ }
