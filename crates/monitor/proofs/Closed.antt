@@ -8,7 +8,8 @@ use lib.ListN.{length, getD, take, length-append, length-drop, length-take, List
 use lib.Seq.{getD-drop, getD-append-seam}
 use Rattle.model.specs.Model.{newest}
 use Rattle.model.specs.Levels.{oldest}
-use Rattle.monitor.specs.Sets.{InCell, Took, Lowered, SweptFrom, ClosedUnder, Shifted}
+use Rattle.monitor.specs.Sets.{InCell, Took, Lowered, SweptFrom, ClosedUnder, Carried, Shifted}
+use Rattle.monitor.specs.Notes.{NotedAt, Noted, NotesShifted}
 use Rattle.monitor.specs.Feed.{Shows, Held}
 use Rattle.monitor.specs.Event.{Arrival}
 use Rattle.monitor.proofs.Bridge.{same-word}
@@ -103,7 +104,7 @@ module _ (rows : List ℕ) (width c : ℕ) (l h : List ℕ) (n a top : ℕ) (set
   lost-later v r s i k = (
     (λ m. inl (up (suc v) (suc r) s (omega arith) .0 m)),
     (λ x. ⊎-elim (λ m. up (suc v) (suc r) s (omega arith) .1 m)
-    (λ (f, m). was v (suc r) s (omega arith) k .1 (closed .lost v r s (omega arith) k f (was (suc v) r s i (omega arith) .0 m))) x),
+        (λ (f, m). was v (suc r) s (omega arith) k .1 (closed .lost v r s (omega arith) k f (was (suc v) r s i (omega arith) .0 m))) x),
   )
 
   pub closed-swept : SweptFrom rows width c h 0 top raised after
@@ -152,3 +153,30 @@ arrival-shows rows width most c n a top set held set′ held′ le pos few shows
     let size : length (newest most (take n held ++ (a ∷ []))) ≡ top = newest-long (take n held) n most a top len (arr .count) le pos in
     let line : take top held′ ≡ newest most (take n held ++ (a ∷ [])) = rw (sym size) (shown-take (newest most (take n held ++ (a ∷ []))) held′ (omega (arith, arr .count)) now) in
     rw line now
+
+-- the levels went up, whatever became of the first
+pub carried : (rows : List ℕ) (width c a top : ℕ) (set raised after : List ℕ) → Shifted top set raised → Lowered rows width c a 0 raised after → Carried top set after
+carried rows width c a top set raised after shift low = record { moved = λ k l. low .beside .above (8 + k) (omega arith) ∙ shift .moved k l }
+
+-- so the notes go up with them
+pub carried-noted : (n top : ℕ) (set after before notes : List ℕ) → top ≤ n + 1 → top ≤ 32 → Carried top set after → Noted set before (suc n) → NotesShifted after before notes
+    → Noted after notes (suc top)
+carried-noted n top set after before notes le few up noted to = record { size = to .size ∙ noted .size; at = at }
+  where
+    was : (v r s : ℕ) → v < top → r < 8 → InCell after (suc v) r s ↔ InCell set v r s
+    was v r s i j = let e : 8 * suc v + r ≡ 8 + (8 * v + r) = omega arith in same-word s (ap (λ (k : ℕ). getD after k 0) e ∙ up .moved (8 * v + r) (omega arith))
+
+    at : (w : ℕ) → w < suc top → NotedAt after notes w
+    at zero l = to .first
+    at (suc v) l =
+        let m = noted .at v (omega arith) in
+        record {
+          states = λ s. rw (to .states v (omega arith)) (
+            (λ i. let (r, k, j) = m .states s .0 i in (r, k, was v r s (omega arith) k .1 j)),
+            (λ (r, k, j). m .states s .1 (r, k, was v r s (omega arith) k .0 j)),
+          );
+          runs = λ r. rw (to .runs v (omega arith)) (
+            (λ i. let (k, s, j) = m .runs r .0 i in (k, s, was v r s (omega arith) k .1 j)),
+            (λ (k, s, j). m .runs r .1 (k, s, was v r s (omega arith) k .0 j)),
+          );
+        }

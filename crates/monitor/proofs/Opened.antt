@@ -23,17 +23,13 @@ use Rattle.monitor.specs.Session.{used, table-in, kept, line, ZeroFrom, 
 use Rattle.monitor.specs.Open.{zeros, padded, opening, begun, zero-session}
 use Rattle.monitor.specs.Laws.{Proper, OpenedSound, ZerosUnsound}
 use Rattle.monitor.specs.Run.{session-of}
-use Rattle.monitor.proofs.Padded.{length-zeros}
+use Rattle.monitor.proofs.Padded.{length-zeros, zeros-at}
 use Rattle.monitor.proofs.Openings.{opening-passes}
 
 -- A session of zeros only has no states.
 pub zeros-unsound : ZerosUnsound
 unfolding zero-session
 zeros-unsound s = omega (arith, s .table .valid .states .0)
-
-zero-at : (n k : ℕ) → getD (zeros n) k 0 ≡ 0
-unfolding zeros
-zero-at n k = ⊎-elim (λ i. getD-replicate n k 0 0 i) (λ i. List·getD-eq-default (replicate n 0) 0 (rw length-replicate i)) (lt-or-ge k n)
 
 -- THE ROWS
 
@@ -49,7 +45,7 @@ module _ (l : List ℕ) (fits : length l ≤ 2048) where
   padded-rest k i =
       let e : take 2048 l ≡ l = take-all 2048 l fits in
       let g : length l + (k - length l) ≡ k = omega arith in
-      rw (e, ← g, getD-append-add, getD-drop) (zero-at 2048 (length l + (k - length l)))
+      rw (e, ← g, getD-append-add, getD-drop) (zeros-at 2048 (length l + (k - length l)))
 
 -- THE SET
 
@@ -60,7 +56,7 @@ word-first : getD first-set 0 0 ≡ 1
 word-first = getD-set-same (zeros 264) 0 1 0 (rw length-zeros (omega arith))
 
 word-other : (k : ℕ) → 0 < k → getD first-set k 0 ≡ 0
-word-other k i = let n : k ≢ 0 = λ e. omega arith in getD-set-other (zeros 264) 0 k 1 0 n ∙ zero-at 264 k
+word-other k i = let n : k ≢ 0 = λ e. omega arith in getD-set-other (zeros 264) 0 k 1 0 n ∙ zeros-at 264 k
 
 -- the word 1 has state 0 alone
 one : (q : ℕ) → In q 1 ↔ (q ≡ 0)
@@ -99,7 +95,7 @@ module _ (rows rows′ : List ℕ) (s i o B c : ℕ) (passes : opening rows s i 
         table = record { valid = rw packed valid; rest = rest };
         bounds = bounded;
         set = λ x h. rw (first-holds x .0 h) (record { state = valid .states .0; waiting = omega arith; run = bounded .losses .0; arrived = omega arith });
-        held = record { valid = λ k l m. absurd (omega arith); rest = λ k l m. zero-at 32 k };
+        held = record { valid = λ k l m. absurd (omega arith); rest = λ k l m. zeros-at 32 k };
         seen = omega arith;
         limit = omega arith;
         flag = (cfg 0 0 0, first-holds (cfg 0 0 0) .1 refl);

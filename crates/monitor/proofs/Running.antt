@@ -33,14 +33,17 @@ use Rattle.monitor.specs.declared.session.Flag.the-variants as flag
 use Rattle.monitor.specs.declared.summary.Sum.{Sum}
 use Rattle.monitor.specs.Sets.{Holds, Finds, Contained}
 use Rattle.monitor.specs.Session.{table-in, kept, Sound}
-use Rattle.monitor.specs.Feed.{FlagAfter, MovedOn, FedTo, fed}
-use Rattle.monitor.specs.Event.{Arrival, Departure}
+use Rattle.monitor.specs.Feed.{Shows, FlagAfter, MovedOn, FedTo, fed}
+use Rattle.monitor.specs.Event.{ArrivalNoted, DepartureNoted}
 use Rattle.monitor.specs.Open.{zeros, then, opening, begun}
 use Rattle.monitor.specs.Laws.{Follows}
-use Rattle.monitor.specs.Run.{limit-test, is-invalid, invalid-at, unless-invalid, events-test, buffer-test, traced, run-test, Lowest, Highest, WaitingOf, RunOf, Line, Put, At, session-of, Stepped, Recorded, RunTo, Followed}
+use Rattle.monitor.specs.Run.{limit-test, is-invalid, invalid-at, unless-invalid, events-test, buffer-test, traced, run-test, Lowest, Highest, WaitingOf, RunOf, Line, Put, At, session-of, KeptUp, Stepped, Recorded, RunTo, Followed}
+use Rattle.monitor.specs.Notes.{Noted}
+use Rattle.monitor.proofs.Closed.{swept-closed, arrival-shows}
+use Rattle.monitor.proofs.Lines.{shows-first}
 use Rattle.monitor.specs.Summary.{Sums, LineOf}
 use Rattle.monitor.proofs.Feeding.{arrived-to, arrived-contained, sent-to, departed-contained}
-use Rattle.monitor.proofs.Padded.{length-zeros}
+use Rattle.monitor.proofs.Padded.{length-zeros, zeros-at}
 use Rattle.monitor.proofs.Opened.{first-set, first-holds, lent-rows, lent-rest}
 use Rattle.monitor.proofs.Openings.{both-passed, opening-passes}
 use Rattle.monitor.proofs.Sessions.{first-follows, more-follows}
@@ -48,26 +51,37 @@ use Rattle.monitor.proofs.Sums.{line-of, states-of}
 
 -- ONE EVENT
 
-module _ (rows : List ℕ) (i o B c n b a : ℕ) (set held set′ held′ : List ℕ) where
-  pub input-stepped : (top : ℕ) → symbol-of b i o ≡ Input a → Arrival rows (i + o) B c n a top set held set′ held′ → Stepped rows i o B c n b set held set′ held′ top
-  input-stepped top e arr =
+module _ (rows : List ℕ) (i o B c n b a : ℕ) (set held set′ held′ notes′ : List ℕ) where
+  pub input-stepped : (top : ℕ) → n ≤ B → 0 < B → B ≤ 32 → Shows (take n held) held → symbol-of b i o ≡ Input a
+      → ArrivalNoted rows (i + o) B c n a top set held set′ held′ notes′ → Stepped rows i o B c n b set held set′ held′ notes′ top
+  input-stepped top le pos few shown e to =
+      let arr = to .arrival in
       let (ea, l, ev) = given-means b i o a .0 e in
       record {
         words = arr .words;
         long = arr .held-on .size ∙ arr .long;
         count = rw ev (arr .count);
+        kept =
+            record {
+              shown = arrival-shows rows (i + o) B c n a top set held set′ held′ le pos few shown arr;
+              closed = swept-closed rows (i + o) c (take top held′) top (arr .raised) set′ (arr .swept);
+              noted = to .noted;
+            };
         contained = λ st es ar f sound k. arrived-contained (session-of rows st i o B c set held es ar f) sound (arr .long) a l n top set′ held′ k arr;
         fed = λ st es ar f sound k r mo. rw ea at (arrived-to (session-of rows st i o B c set held es ar f) sound (arr .long) a l n top set′ held′ r k arr (rw ev at mo));
       }
 
-  pub output-stepped : symbol-of b i o ≡ Output a → n ≤ B → held′ ≡ held → Departure rows (i + o) (i + a) c n set held set′ → Stepped rows i o B c n b set held set′ held′ n
-  output-stepped e le eh dep =
+  pub output-stepped : symbol-of b i o ≡ Output a → n ≤ B → Shows (take n held) held → held′ ≡ held → DepartureNoted rows (i + o) (i + a) c n set held set′ notes′
+      → Stepped rows i o B c n b set held set′ held′ notes′ n
+  output-stepped e le shown eh to =
+      let dep = to .departure in
       let (ea, l, ev) = given-means b i o a .1 e in
       let z : (ar : ℕ) → ar + 0 ≡ ar = λ ar. omega arith in
       record {
         words = dep .words;
         long = ap length eh ∙ dep .long;
         count = rw ev (omega arith);
+        kept = rw eh (record { shown = shown; closed = swept-closed rows (i + o) c (take n held) n (dep .followed) set′ (dep .swept); noted = to .noted });
         contained = λ st es ar f sound k. departed-contained (session-of rows st i o B c set held es ar f) sound (dep .long) a n set′ l k dep;
         fed = λ st es ar f sound k r mo. rw ea at (sent-to (session-of rows st i o B c set held es ar f) sound (dep .long) a n set′ r l k dep (rw (z ar) at (rw (ev, eh) at mo)));
       }
@@ -75,7 +89,7 @@ module _ (rows : List ℕ) (i o B c n b a : ℕ) (set held set′ held′ : List
 -- ITS LINE
 
 -- a set whose sum has a state holds something
-pub sum-finds : (T : Table) (c top : ℕ) (set : List ℕ) → top ≤ 32 → Contained T c top set → (s : Sum) → Sums set (8 * top + 8) s → Finds set (not (eqb (s .states) 0))
+pub sum-finds : (T : Table) (c top : ℕ) (set : List ℕ) → top ≤ 32 → Contained T c top set → (s : Sum) → Sums set (suc top) s → Finds set (not (eqb (s .states) 0))
 sum-finds T c top set few contained s sums = go (eqb (s .states) 0) refl
   where
     go : (b : Bool) → eqb (s .states) 0 ≡ b → Finds set (not b)
@@ -121,11 +135,12 @@ line-same S S′ bytes h l =
 
 module _ (rows : List ℕ) (i o B c : ℕ) (trace before : List ℕ) where
   -- after k events: the session that the run stands for follows the trace, and the lines up to here are written
-  pub record Following (set held : List ℕ) (n k : ℕ) (out : List ℕ) (f : Flag) : Type 0 where
+  pub record Following (set held notes : List ℕ) (n k : ℕ) (out : List ℕ) (f : Flag) : Type 0 where
     pub some-of : k ≤ length trace
     pub count : n ≡ min B (arrived-in trace k)
     pub words : length set ≡ 264
     pub long : length held ≡ 32
+    pub kept : KeptUp rows (i + o) c n set held notes
     pub size : length out ≡ length before
     pub rest : (p : ℕ) → 12 * k ≤ p → getD out p 0 ≡ getD before p 0
     pub follows : (s : ℕ) → opening rows s i o B c ≡ Passed → Follows (table-of rows s i o) B c (take k trace) (session-of rows s i o B c set held k (arrived-in trace k) f)
@@ -133,14 +148,20 @@ module _ (rows : List ℕ) (i o B c : ℕ) (trace before : List ℕ) where
         → (line : List ℕ) × Line (Plausible (box (table-of rows s i o)) B c (events (take (suc j) trace))) line × At (12 * j) line out
 
   -- before any event
-  pub following-none : (set held : List ℕ) → set ≡ first-set → held ≡ zeros 32 → Following set held 0 0 before flag.None
+  pub following-none : (set held notes : List ℕ) → set ≡ first-set → held ≡ zeros 32 → Noted set notes 1 → Following set held notes 0 0 before flag.None
   unfolding begun
-  following-none set held es eh =
+  following-none set held notes es eh noted =
       record {
         some-of = omega arith;
         count = omega arith;
         words = ap length es ∙ length-set (zeros 264) 0 1 ∙ length-zeros 264;
         long = ap length eh ∙ length-zeros 32;
+        kept =
+            record {
+              shown = shows-first 0 held (ap length eh ∙ length-zeros 32) (λ k l m. rw eh (zeros-at 32 k));
+              closed = record { taken = λ v s l t. absurd (omega arith); lost = λ v r s l j f m. absurd (omega arith) };
+              noted = noted;
+            };
         size = refl;
         rest = λ p l. refl;
         follows = λ s e. rw (es, eh) (first-follows rows rows s i o B c e (lent-rows rows s i o B c e) (lent-rest rows s i o B c e));
@@ -148,8 +169,8 @@ module _ (rows : List ℕ) (i o B c : ℕ) (trace before : List ℕ) where
       }
 
   -- one event more
-  module _ (set held set′ held′ : List ℕ) (n n′ k : ℕ) (out out′ : List ℕ) (f g : Flag) (here : k < length trace) (room : length trace ≤ most-events)
-      (valid : symbol-of (getD trace k 0) i o ≡ Invalid → ⊥) (h : Following set held n k out f) (st : Stepped rows i o B c n (getD trace k 0) set held set′ held′ n′) (rec : Recorded set′ n′ k out out′ f g) where
+  module _ (set held set′ held′ notes notes′ : List ℕ) (n n′ k : ℕ) (out out′ : List ℕ) (f g : Flag) (here : k < length trace) (room : length trace ≤ most-events)
+      (valid : symbol-of (getD trace k 0) i o ≡ Invalid → ⊥) (h : Following set held notes n k out f) (st : Stepped rows i o B c n (getD trace k 0) set held set′ held′ notes′ n′) (rec : Recorded notes′ n′ k out out′ f g) where
     b : ℕ
     b = getD trace k 0
 
@@ -190,7 +211,7 @@ module _ (rows : List ℕ) (i o B c : ℕ) (trace before : List ℕ) where
             bytes = refl;
             events = refl;
             inputs-seen = refl;
-            flag = rec .flag (table-in (session-of rows s i o B c set held k (arrived-in trace k) f)) c cont;
+            flag = rec .flag set′ (table-in (session-of rows s i o B c set held k (arrived-in trace k) f)) c (st .kept .noted) cont;
           })
 
       is : Follows (table-of rows s i o) B c (take (k + 1) trace) (session-of rows s i o B c set′ held′ (k + 1) (arrived-in trace (k + 1)) g)
@@ -204,7 +225,7 @@ module _ (rows : List ℕ) (i o B c : ℕ) (trace before : List ℕ) where
       line-is =
           let p = is .carries .plausible in
           let e : take (suc k) trace ≡ take (k + 1) trace = rw add-one in
-          rw e (line-same (Holds set′) (Plausible (box (table-of rows s i o)) B c (events (take (k + 1) trace))) (rec .line) p (rec .of-set (table-in (session-of rows s i o B c set held k (arrived-in trace k) f)) c cont))
+          rw e (line-same (Holds set′) (Plausible (box (table-of rows s i o)) B c (events (take (k + 1) trace))) (rec .line) p (rec .of-set set′ (table-in (session-of rows s i o B c set held k (arrived-in trace k) f)) c (st .kept .noted) cont))
 
       line-at : (j : ℕ) → j < k + 1 → (line : List ℕ) × Line (Plausible (box (table-of rows s i o)) B c (events (take (suc j) trace))) line × At (12 * j) line out′
       line-at j l = ⊎-elim old (λ m. let e : j ≡ k = omega arith in rw e (rec .line, line-is, rec .put .bytes)) (lt-or-ge j k)
@@ -212,13 +233,14 @@ module _ (rows : List ℕ) (i o B c : ℕ) (trace before : List ℕ) where
           old : j < k → (line : List ℕ) × Line (Plausible (box (table-of rows s i o)) B c (events (take (suc j) trace))) line × At (12 * j) line out′
           old m = let (line, is-line, at) = h .lines s passes j m in (line, is-line, λ p q. rec .put .below (12 * j + p) (omega arith) ∙ at p q)
 
-    pub following-more : Following set′ held′ n′ (k + 1) out′ g
+    pub following-more : Following set′ held′ notes′ n′ (k + 1) out′ g
     following-more =
         record {
           some-of = omega arith;
           count = omega (arith, st .count, h .count, arrived-more);
           words = st .words;
           long = st .long;
+          kept = st .kept;
           size = rec .put .size ∙ h .size;
           rest = λ p l. rec .put .above p (omega arith) ∙ h .rest p (omega arith);
           follows = is;
@@ -226,8 +248,8 @@ module _ (rows : List ℕ) (i o B c : ℕ) (trace before : List ℕ) where
         }
 
   -- after all of them
-  pub run-end : (set held : List ℕ) (n k : ℕ) (out : List ℕ) (f : Flag) → k ≡ length trace → Following set held n k out f → Followed rows i o B c trace before out f
-  run-end set held n k out f e h s passes =
+  pub run-end : (set held notes : List ℕ) (n k : ℕ) (out : List ℕ) (f : Flag) → k ≡ length trace → Following set held notes n k out f → Followed rows i o B c trace before out f
+  run-end set held notes n k out f e h s passes =
       record {
         size = h .size;
         lines = λ j l. h .lines s passes j (omega arith);

@@ -1,4 +1,5 @@
 pub mod Sets
+pub mod Notes
 pub mod Session
 pub mod Open
 pub mod Feed

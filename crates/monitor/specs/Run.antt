@@ -25,9 +25,10 @@ use Rattle.monitor.specs.declared.session.Flag.{Flag}
 use Rattle.monitor.specs.declared.session.Flag.the-variants as flag
 use Rattle.monitor.specs.declared.run.Ran.{Ran}
 use Rattle.monitor.specs.Open.{then, opening}
-use Rattle.monitor.specs.Sets.{Holds, Contained}
+use Rattle.monitor.specs.Sets.{Holds, ClosedUnder, Contained}
 use Rattle.monitor.specs.Session.{table-in, Sound}
-use Rattle.monitor.specs.Feed.{FlagAfter, MovedOn, FedTo}
+use Rattle.monitor.specs.Notes.{Noted}
+use Rattle.monitor.specs.Feed.{Shows, FlagAfter, MovedOn, FedTo}
 use Rattle.monitor.specs.Laws.{place-of}
 
 -- THE TESTS
@@ -134,23 +135,30 @@ session-of rows s i o B c set held events arrived f =
       flag = f;
     }
 
+-- What a run keeps up between two events: the held inputs are a line of n, the set is closed, and its levels are noted.
+pub record KeptUp (rows : List ℕ) (width c n : ℕ) (set held notes : List ℕ) : Type 0 where
+  pub shown : Shows (first n held) held
+  pub closed : ClosedUnder rows width c (first n held) n set
+  pub noted : Noted set notes (suc n)
+
 -- One event does to the set and the line what it does to such a session, and the line then has n′ inputs.
-pub record Stepped (rows : List ℕ) (i o B c n b : ℕ) (set held set′ held′ : List ℕ) (n′ : ℕ) : Type 0 where
+pub record Stepped (rows : List ℕ) (i o B c n b : ℕ) (set held set′ held′ notes′ : List ℕ) (n′ : ℕ) : Type 0 where
   pub words : length set′ ≡ 264
   pub long : length held′ ≡ 32
   pub count : n′ ≡ min (n + length (inputs-of (event b ∷ []))) B
+  pub kept : KeptUp rows (i + o) c n′ set′ held′ notes′
   pub contained : (st events arrived : ℕ) (f : Flag) → Sound (session-of rows st i o B c set held events arrived f) → n ≡ min B arrived
       → Contained (table-in (session-of rows st i o B c set held events arrived f)) c n′ set′
   pub fed : (st events arrived : ℕ) (f : Flag) → Sound (session-of rows st i o B c set held events arrived f) → n ≡ min B arrived → (r : Session)
       → MovedOn (session-of rows st i o B c set held events arrived f) set′ held′ (arrived + length (inputs-of (event b ∷ []))) r
       → FedTo (session-of rows st i o B c set held events arrived f) b r
 
--- The line of the set is written for event k, and the flag falls if there is nothing.
-pub record Recorded (set : List ℕ) (n k : ℕ) (before after : List ℕ) (f g : Flag) : Type 0 where
+-- The line of the set with these notes is written for event k, and the flag falls if there is nothing.
+pub record Recorded (notes : List ℕ) (n k : ℕ) (before after : List ℕ) (f g : Flag) : Type 0 where
   pub line : List ℕ
   pub put : Put (12 * k) line before after
-  pub of-set : (T : Table) (c : ℕ) → Contained T c n set → Line (Holds set) line
-  pub flag : (T : Table) (c : ℕ) → Contained T c n set → FlagAfter k set f g
+  pub of-set : (set : List ℕ) (T : Table) (c : ℕ) → Noted set notes (suc n) → Contained T c n set → Line (Holds set) line
+  pub flag : (set : List ℕ) (T : Table) (c : ℕ) → Noted set notes (suc n) → Contained T c n set → FlagAfter k set f g
 
 -- What a run that is not refused does: for each event k the 12 bytes of the plausible set after k + 1 events; bytes after 12 × events keep
 -- their values; and the flag's place or none.

@@ -94,6 +94,10 @@ pub record Shifted (n : ℕ) (before after : List ℕ) : Type 0 where
   pub moved : (k : ℕ) → k < 8 * n → getD after (8 + k) 0 ≡ getD before k 0
   pub above : (k : ℕ) → 8 * n + 8 ≤ k → getD after k 0 ≡ getD before k 0
 
+-- The n levels below have gone up by one, whatever became of the first.
+pub record Carried (n : ℕ) (before after : List ℕ) : Type 0 where
+  pub moved : (k : ℕ) → k < 8 * n → getD after (8 + k) 0 ≡ getD before k 0
+
 -- An output is seen: state s of the level of w waiting follows the column to t; in one level; and in all up to n.
 pub record Followed (rows : List ℕ) (width column s t : ℕ) (before : List ℕ) (w r : ℕ) : Type 0 where
   pub member : InCell before w r s

@@ -2,6 +2,7 @@
 // After each event it holds exactly the states, waiting counts and loss runs that the published model allows.
 mod event;
 pub mod feed;
+mod notes;
 pub mod run;
 pub mod session;
 pub mod sound;

@@ -6,9 +6,10 @@ ghost use Rattle.model.specs.Limits.{most-events};
 ghost use Rattle.model.specs.Table.{Valid, Bounded};
 ghost use Rattle.table.specs.Bytes.{table-of, symbol-of};
 ghost use Rattle.table.specs.declared.answer.Symbol.the-variants.{Invalid};
-ghost use Rattle.monitor.specs.Run.{is-invalid, events-test, traced, run-test, Stepped, Recorded, Followed, Runs};
+ghost use Rattle.monitor.specs.Run.{is-invalid, events-test, traced, run-test, KeptUp, Stepped, Recorded, Followed, Runs};
 use crate::event;
 use crate::feed;
+use crate::notes;
 use crate::session;
 use crate::session::Flag;
 use crate::session::MOST_EVENTS;
@@ -92,10 +93,11 @@ fn tests<'a>(
 
 // THE EVENTS
 
-// The set and the line after one valid event more; how many inputs the line has then is the answer.
+// The set, the line and the notes after one valid event more; how many inputs the line has then is the answer.
 fn step(
     set: &mut [u64; 264],
     held: &mut [u8; 32],
+    notes: &mut [u64; 66],
     rows: &[u8],
     inputs: u8,
     outputs: u8,
@@ -105,14 +107,16 @@ fn step(
     byte: u8,
 ) -> usize
     requires { ⌜ (n ≤ most) × (0 < most) × (most ≤ 32) × (inputs ≤ 16) × (outputs ≤ 16) × (length (now set) ≡ 264) × (length (now held) ≡ 32) ⌝ }
+    requires { ⌜ KeptUp (now rows) (inputs + outputs) c n (now set) (now held) (now notes) ⌝ }
     requires { ⌜ (symbol-of byte inputs outputs ≡ Invalid → ⊥) ⌝ }
-    ensures { λ m. ⌜ Stepped (now (rows .entry)) inputs outputs most c n byte (now (set .entry)) (now (held .entry)) (now (set .exit)) (now (held .exit)) m ⌝ }
+    ensures { λ m. ⌜ Stepped (now (rows .entry)) inputs outputs most c n byte (now (set .entry)) (now (held .entry)) (now (set .exit)) (now (held .exit)) (now (notes .exit)) m ⌝ }
 {
     let symbol = table::event(byte, inputs, outputs);
     match symbol {
-        Symbol::Input(a) => event::arrived(
+        Symbol::Input(a) => event::arrived_noted(
             &mut *set,
             &mut *held,
+            &mut *notes,
             rows,
             inputs + outputs,
             most,
@@ -121,7 +125,16 @@ fn step(
             a,
         ),
         Symbol::Output(a) => {
-            event::sent(&mut *set, &*held, rows, inputs + outputs, inputs + a, c, n);
+            event::sent_noted(
+                &mut *set,
+                &*held,
+                &mut *notes,
+                rows,
+                inputs + outputs,
+                inputs + a,
+                c,
+                n,
+            );
             n
         }
         Symbol::Invalid => n,
@@ -129,11 +142,11 @@ fn step(
 }
 
 // The line of the set is written for event k, and the flag falls if nothing is plausible any more.
-fn recorded(set: &[u64; 264], n: usize, out: &mut [u8], k: usize, flag: Flag) -> Flag
+fn recorded(notes: &[u64; 66], n: usize, out: &mut [u8], k: usize, flag: Flag) -> Flag
     requires { ⌜ (n ≤ 32) × (k < most-events) × (12 * k + 12 ≤ length (now out)) ⌝ }
-    ensures { λ g. ⌜ Recorded (now (set .entry)) n k (now (out .entry)) (now (out .exit)) flag g ⌝ }
+    ensures { λ g. ⌜ Recorded (now (notes .entry)) n k (now (out .entry)) (now (out .exit)) flag g ⌝ }
 {
-    let s = summary::summed(set, n);
+    let s = summary::summed(notes, n + 1);
     summary::put(&mut *out, 12 * k, summary::line(s));
     feed::flagged(flag, s.states != 0, k)
 }
@@ -155,6 +168,8 @@ fn followed<'a>(
     let mut set = [0u64; 264];
     set[0] = 1;
     let mut held = [0u8; 32];
+    let mut notes = [0u64; 66];
+    notes::note_all(&set, &mut notes, 1);
     let mut n: usize = 0;
     let mut flag = Flag::None;
     let mut k: usize = 0;
@@ -162,6 +177,7 @@ fn followed<'a>(
         n = step(
             &mut set,
             &mut held,
+            &mut notes,
             rows,
             inputs,
             outputs,
@@ -170,7 +186,7 @@ fn followed<'a>(
             n,
             trace[k],
         );
-        flag = recorded(&set, n, &mut *out, k, flag);
+        flag = recorded(&notes, n, &mut *out, k, flag);
         k += 1;
     }
     flag

@@ -6,7 +6,7 @@ ghost use Prim.Native.Nat.{ℕ, _+_, _*_, _≤_, _<_};
 ghost use lib.ListN.{length};
 ghost use Rattle.states.specs.In.{In, Least, Most};
 ghost use Rattle.monitor.specs.Run.{Put};
-ghost use Rattle.monitor.specs.Summary.{Added, Sums, LineOf};
+ghost use Rattle.monitor.specs.Summary.{Added, SumsNotes, LineOf};
 
 // Three sets of numbers, as words: the states of a set of configurations, its waiting counts and its runs.
 pub(crate) struct Sum {
@@ -15,36 +15,43 @@ pub(crate) struct Sum {
     pub runs: u64,
 }
 
-// The sum with the word x of w waiting and a run of r.
-fn with_word(s: Sum, x: u64, w: usize, r: usize) -> Sum
-    requires { ⌜ (w < 64) × (r < 64) ⌝ }
-    ensures { λ t. ⌜ Added s x w r t ⌝ }
+// The number waiting, as a bit, if the level has a state.
+fn place(states: u64, w: usize) -> u64
+    requires { ⌜ w < 64 ⌝ }
+    ensures { λ x. ⌜ ((v : ℕ) → In v x ↔ ((q : ℕ) × In q states × (w ≡ v))) ⌝ }
 {
-    if x == 0 {
-        return s;
+    if states == 0 {
+        return 0;
     }
+    1u64 << w
+}
+
+// The sum with one level more, of these states and runs.
+fn with_level(s: Sum, states: u64, runs: u64, w: usize) -> Sum
+    requires { ⌜ w < 64 ⌝ }
+    ensures { λ t. ⌜ Added s states runs w t ⌝ }
+{
     Sum {
-        states: s.states | x,
-        waits: s.waits | (1u64 << w),
-        runs: s.runs | (1u64 << r),
+        states: s.states | states,
+        waits: s.waits | place(states, w),
+        runs: s.runs | runs,
     }
 }
 
-// What stands in the levels up to top.
-pub(crate) fn summed(set: &[u64; 264], top: usize) -> Sum
-    requires { ⌜ top ≤ 32 ⌝ }
-    ensures { λ t. ⌜ Sums (now (set .entry)) (8 * top + 8) t ⌝ }
+// What stands in the levels below n, by their notes.
+pub(crate) fn summed(notes: &[u64; 66], n: usize) -> Sum
+    requires { ⌜ n ≤ 33 ⌝ }
+    ensures { λ t. ⌜ SumsNotes (now (notes .entry)) n t ⌝ }
 {
     let mut s = Sum {
         states: 0,
         waits: 0,
         runs: 0,
     };
-    let end = 8 * top + 8;
-    let mut k: usize = 0;
-    while k < end {
-        s = with_word(s, set[k], k / 8, k % 8);
-        k += 1;
+    let mut w: usize = 0;
+    while w < n {
+        s = with_level(s, notes[w], notes[33 + w], w);
+        w += 1;
     }
     s
 }

@@ -8,7 +8,7 @@ ghost use Rattle.monitor.specs.Sets.{Level, Stored, Lowered, SweptFrom, 
 ghost use Rattle.states.specs.In.{In, Has};
 
 // The level of w waiting: its eight words, one for each run.
-fn level(set: &[u64; 264], w: usize) -> [u64; 8]
+pub(crate) fn level(set: &[u64; 264], w: usize) -> [u64; 8]
     requires { ⌜ w ≤ 32 ⌝ }
     ensures { λ x. ⌜ Level (now (set .entry)) w x ⌝ }
 {

@@ -1,4 +1,4 @@
-use Rattle.monitor.proofs.Closed.{closed-arrival}
+use Rattle.monitor.proofs.Closed.{closed-arrival, carried}
 use native.Mathlib.Omega.{arith}
 use borrow.Author.Needs.{needs}
 use Rattle.monitor.proofs.event.arrived_closed.Statement.{statement}
@@ -29,8 +29,10 @@ lower-requires c κs = search needs
 -- src/event.rt:66:1
 returns : tie.Need-returns
 returns c =
-    let p = c .before .before .before .before .before .before .before .before .pre in
-    closed-arrival _ _ _ _ _ _ _ _ _ _ _ _ (p .0 .0) (p .0 .1) (p .0 .2) (p .0 .4) (p .1 .0) (p .1 .1) (c .before .before .before .before .before .hold .ensures) (c .before .before .before .before .grown .ensures) (c .before .before .shift .ensures .0) (c .lower .ensures .0) (c .lower .ensures .1)
+    let p = c .before .before .before .before .before .before .before .before .pre in (
+      closed-arrival _ _ _ _ _ _ _ _ _ _ _ _ (p .0 .0) (p .0 .1) (p .0 .2) (p .0 .4) (p .1 .0) (p .1 .1) (c .before .before .before .before .before .hold .ensures) (c .before .before .before .before .grown .ensures) (c .before .before .shift .ensures .0) (c .lower .ensures .0) (c .lower .ensures .1),
+      carried _ _ _ _ _ _ _ _ (c .before .before .shift .ensures .0) (c .lower .ensures .0),
+    )
 
 pub arrived-closed-spec : {M : Type 1} → statement M
 arrived-closed-spec =
