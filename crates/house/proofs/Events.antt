@@ -11,8 +11,9 @@ use Rattle.table.proofs.Laws.{found-none, found-first, event-told}
 use Rattle.monitor.proofs.Laws.{events-pass, first-invalid}
 use Rattle.table.specs.Bytes.{symbol-of}
 use Rattle.table.specs.First.{first}
-use Rattle.house.specs.Limits.{event-kind}
-use Rattle.house.specs.File.{block-at, blocks, share, joined, events-of}
+use Rattle.block.specs.Limits.{event-kind}
+use Rattle.block.specs.Block.{share}
+use Rattle.house.specs.File.{block-at, blocks, joined, events-of}
 use Rattle.table.specs.declared.answer.Told.{Told}
 use Rattle.monitor.specs.Run.{is-invalid, invalid-at, events-test}
 use Rattle.house.specs.Reading.{place-or, valid-events, or-else}

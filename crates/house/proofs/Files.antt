@@ -6,13 +6,13 @@ use Prim.Native.Nat.{ℕ, zero, suc, _+_, _*_, _-_, _≤_, _<_}
 use native.Mathlib.Nat.{add-zero, add-suc}
 use native.Mathlib.Numerals.{add-one}
 use native.Mathlib.Omega.{arith}
-use lib.ListN.{length, take, drop, getD, length-append, length-take, length-drop, List·getD-append}
+use lib.ListN.{length, take, drop, getD, length-append, length-take, List·getD-append}
 use lib.Seq.{paste, take-append-seam, take-length, drop-append-add, drop-drop, getD-append-add}
 use lib.Dec.{eqb}
-use borrow.Author.Tests.{eq-eqb, ne-eqb, le-leb, lt-leb}
-use Rattle.house.specs.Limits.{block-size, room}
-use Rattle.house.specs.Block.{kind, payload}
-use Rattle.house.specs.File.{block-at, blocks, share, joined, front, put}
+use borrow.Author.Tests.{le-leb, lt-leb}
+use Rattle.block.specs.Limits.{block-size, room}
+use Rattle.block.specs.Block.{kind, payload, share}
+use Rattle.house.specs.File.{block-at, blocks, block-before, joined, front, put}
 
 -- BLOCKS
 
@@ -20,16 +20,15 @@ use Rattle.house.specs.File.{block-at, blocks, share, joined, front, put
 pub cut : (s : List ℕ) (k : ℕ) → take (block-size * k + block-size - block-size * k) (drop (block-size * k) s) ≡ block-at s k
 cut s k = let e : block-size * k + block-size - block-size * k ≡ block-size = omega arith in rw e
 
-pub cut-long : (s : List ℕ) (k : ℕ) → k < blocks s → length (block-at s k) ≡ block-size
-cut-long s k l = simp (length-take, length-drop) (omega arith)
+-- the block before block k
+pub before-first : (s : List ℕ) (k : ℕ) → k ≡ 0 → block-before s k ≡ []
+before-first s k e = ap (block-before s) e
+
+pub before-later : (s : List ℕ) (k : ℕ) → (k ≡ 0 → ⊥) → block-at s (k - 1) ≡ block-before s k
+before-later s zero n = absurd (n refl)
+before-later s (suc k) n = let e : suc k - 1 ≡ k = omega arith in ap (block-at s) e
 
 -- SHARES
-
-pub share-own : (b : List ℕ) (q : ℕ) → kind b ≡ q → share q b ≡ payload b
-share-own b q e = simp (eq-eqb _ _ e)
-
-pub share-none : (b : List ℕ) (q : ℕ) → (kind b ≡ q → ⊥) → share q b ≡ []
-share-none b q n = simp (ne-eqb _ _ n)
 
 pub share-short : (b : List ℕ) (q : ℕ) → length (share q b) ≤ room
 share-short b q = go (eqb (kind b) q)

@@ -8,7 +8,7 @@ use lib.Seq.{take-append-seam, drop-append-seam}
 use Rattle.house.specs.File.{rows-of, events-of, contents-of, front}
 use Rattle.table.proofs.Checks.{clash}
 use Rattle.house.specs.Reading.{verdict, after, Answers}
-use Rattle.house.specs.Laws.{BlockPasses, FirstStray, FormPasses, FirstBad, OneReading, NothingWritten, Starts, WhatIsHeld, GoodRows, ReadExactly, CountsHeld, WhatIsGood, RowsUntouched}
+use Rattle.house.specs.Laws.{FormPasses, FirstBad, OneReading, NothingWritten, Starts, WhatIsHeld, GoodRows, ReadExactly, CountsHeld, WhatIsGood, RowsUntouched}
 use Rattle.house.specs.declared.answer.Contents.{Contents}
 use Rattle.house.specs.declared.answer.Reading.the-variants.{Good}
 use Rattle.house.specs.declared.answer.Source.{Source}
@@ -20,14 +20,8 @@ use Rattle.house.proofs.Forms
 use Rattle.house.proofs.Good
 
 -- The blocks.
-pub block-passes : BlockPasses
-block-passes = Forms.block-passes
-
 pub form-passes : FormPasses
 form-passes = Forms.form-passes
-
-pub first-stray : FirstStray
-first-stray = Forms.first-stray
 
 -- The events.
 pub first-bad : FirstBad

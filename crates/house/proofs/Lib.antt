@@ -1,4 +1,3 @@
-pub mod Blocks
 pub mod Files
 pub mod Events
 pub mod Verdicts

@@ -9,9 +9,11 @@ use native.Mathlib.Omega.{arith}
 use Rattle.table.proofs.Checks.{clash}
 use Rattle.table.specs.declared.answer.Test.{Test}
 use Rattle.table.specs.declared.answer.Test.the-variants as table
-use Rattle.house.specs.Verdicts.{must, of-table, is-passed, then}
-use Rattle.house.specs.Block.{block-test}
-use Rattle.house.specs.File.{block-at, kind-before, used-before}
+use Rattle.block.specs.Block.{block-test}
+use Rattle.block.specs.declared.answer.Test as block-answer
+use Rattle.block.specs.declared.answer.Test.the-variants as block
+use Rattle.house.specs.Verdicts.{must, of-block, of-table, is-passed, then}
+use Rattle.house.specs.File.{block-at, block-before}
 use Rattle.house.specs.Reading.{blocks-test}
 use Rattle.house.specs.declared.answer.Refusal.{Refusal}
 use Rattle.house.specs.declared.answer.Verdict.{Verdict}
@@ -27,6 +29,10 @@ all-passed (Refused r) e = clash (cc)
 pub must-passed : (b : Bool) (r : Refusal) → must b r ≡ Passed → b ≡ true
 must-passed true r e = refl
 must-passed false r e = clash (cc)
+
+pub block-passed : (t : block-answer.Test) (k : ℕ) → of-block t k ≡ Passed → t ≡ block.Passed
+block-passed block.Passed k e = refl
+block-passed (block.Failed f) k e = clash (cc)
 
 pub table-passed : (t : Test) → of-table t ≡ Passed → t ≡ table.Passed
 table-passed table.Passed e = refl
@@ -44,9 +50,9 @@ refuses (Refused r) w e = refl
 -- THE TESTS OF THE BLOCKS
 
 -- block k as the code looks at it
-pub seen : (s b : List ℕ) (k q u : ℕ) {v : Verdict} → b ≡ block-at s k → q ≡ kind-before s k → u ≡ used-before s k → v ≡ block-test b k q u
-    → v ≡ block-test (block-at s k) k (kind-before s k) (used-before s k)
-seen s b k q u e f g h = h ∙ rw (e, f, g)
+pub seen : (s b a : List ℕ) (k : ℕ) {t : block-answer.Test} {v : Verdict} → b ≡ block-at s k → a ≡ block-before s k → t ≡ block-test b k a
+    → v ≡ of-block t k → v ≡ of-block (block-test (block-at s k) k (block-before s k)) k
+seen s b a k e f g h = h ∙ rw (g, e, f)
 
 -- a block refused is the answer of every longer file
 module _ (s : List ℕ) where
@@ -54,13 +60,13 @@ module _ (s : List ℕ) where
   unfolding blocks-test
   blocks-none = refl
 
-  block-more : (k : ℕ) {v : Verdict} → blocks-test s k ≡ Passed → v ≡ block-test (block-at s k) k (kind-before s k) (used-before s k)
+  block-more : (k : ℕ) {v : Verdict} → blocks-test s k ≡ Passed → v ≡ of-block (block-test (block-at s k) k (block-before s k)) k
       → blocks-test s (k + 1) ≡ v
   unfolding blocks-test
   block-more k e f = ap (blocks-test s) (add-one k) ∙ rw (e, f)
 
   pub blocks-good : (k : ℕ) (v : Verdict) → blocks-test s k ≡ Passed
-      → v ≡ block-test (block-at s k) k (kind-before s k) (used-before s k) → is-passed v ≡ true → blocks-test s (k + 1) ≡ Passed
+      → v ≡ of-block (block-test (block-at s k) k (block-before s k)) k → is-passed v ≡ true → blocks-test s (k + 1) ≡ Passed
   blocks-good k v e f g = block-more k e f ∙ all-passed v g
 
   stays : (k m : ℕ) (r : Refusal) → blocks-test s k ≡ Refused r → blocks-test s (k + m) ≡ Refused r
@@ -69,7 +75,7 @@ module _ (s : List ℕ) where
   stays k (suc m) r e = rw (add-suc, stays k m r e)
 
   pub blocks-bad : (k n : ℕ) (v : Verdict) → k < n → blocks-test s k ≡ Passed
-      → v ≡ block-test (block-at s k) k (kind-before s k) (used-before s k) → is-passed v ≡ false → v ≡ blocks-test s n
+      → v ≡ of-block (block-test (block-at s k) k (block-before s k)) k → is-passed v ≡ false → v ≡ blocks-test s n
   blocks-bad k n Passed h e f g = clash (cc)
   blocks-bad k n (Refused r) h e f g =
       let i : k + 1 + (n - (k + 1)) ≡ n = omega arith in

@@ -6,8 +6,9 @@ use Prim.Native.Nat.{ℕ, zero, suc, _+_, _*_, _/_, _<_}
 use lib.Dec.{eqb, leb}
 use lib.ListN.{length, take, drop}
 use Rattle.model.specs.Limits.{UpTo}
-use Rattle.house.specs.Limits.{block-size, payload-at, row-kind, event-kind, most-blocks}
-use Rattle.house.specs.Block.{byte, kind, used, payload, GoodBlock}
+use Rattle.block.specs.Limits.{block-size, payload-at, row-kind, event-kind}
+use Rattle.block.specs.Block.{byte, share, GoodBlock}
+use Rattle.house.specs.Limits.{most-blocks}
 use Rattle.house.specs.declared.answer.Source.{Source}
 use Rattle.house.specs.declared.answer.Source.the-variants.{Rows, Standard}
 use Rattle.house.specs.declared.answer.Contents.{Contents}
@@ -19,24 +20,16 @@ block-at s k = take block-size (drop (block-size * k) s)
 abbrev pub blocks : List ℕ → ℕ
 blocks s = length s / block-size
 
--- The kind and the used count of the block before block k; before block 0 stands nothing, and both are 0.
-abbrev pub kind-before : List ℕ → ℕ → ℕ
-kind-before s zero = 0
-kind-before s (suc k) = kind (block-at s k)
-
-abbrev pub used-before : List ℕ → ℕ → ℕ
-used-before s zero = 0
-used-before s (suc k) = used (block-at s k)
+-- The block before block k; before block 0 stands nothing.
+abbrev pub block-before : List ℕ → ℕ → List ℕ
+block-before s zero = []
+block-before s (suc k) = block-at s k
 
 -- A file of good blocks: 1 to 15 of them, and whole.
 pub record GoodForm (s : List ℕ) : Type 0 where
   pub counted : UpTo most-blocks (blocks s)
   pub whole : length s ≡ block-size * blocks s
-  pub good : (k : ℕ) → k < blocks s → GoodBlock (block-at s k) k (kind-before s k) (used-before s k)
-
--- What block b gives to the payload of kind q.
-abbrev pub share : ℕ → List ℕ → List ℕ
-share q b = cond (eqb (kind b) q) (payload b) []
+  pub good : (k : ℕ) → k < blocks s → GoodBlock (block-at s k) k (block-before s k)
 
 -- The payloads of the blocks of kind q among the first k, one after another.
 unfoldable pub joined : ℕ → List ℕ → ℕ → List ℕ

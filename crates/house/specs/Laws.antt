@@ -8,8 +8,7 @@ use lib.ListN.{length, take, drop, getD}
 use Rattle.model.specs.Table.{Valid, Bounded}
 use Rattle.table.specs.Bytes.{symbol-of, table-of}
 use Rattle.table.specs.declared.answer.Symbol.the-variants.{Invalid}
-use Rattle.house.specs.Limits.{check-at, most-events, standard-states, standard-inputs, standard-outputs}
-use Rattle.house.specs.Block.{stray, GoodBlock, fill-test, block-test}
+use Rattle.house.specs.Limits.{most-events, standard-states, standard-inputs, standard-outputs}
 use Rattle.house.specs.File.{GoodForm, rows-of, events-of, contents-of}
 use Rattle.monitor.specs.Run.{invalid-at}
 use Rattle.house.specs.Reading.{valid-events, form-test, verdict, Answers}
@@ -19,23 +18,9 @@ use Rattle.house.specs.declared.answer.Reading.the-variants.{Good, Refus
 use Rattle.house.specs.declared.answer.Refusal.{Refusal}
 use Rattle.house.specs.declared.answer.Source.{Source}
 use Rattle.house.specs.declared.answer.Source.the-variants.{Rows, Standard}
-use Rattle.house.specs.declared.answer.Flaw.the-variants.{Fill}
-use Rattle.house.specs.declared.answer.Refusal.the-variants.{Block}
-use Rattle.house.specs.declared.answer.Verdict.the-variants as verdict
 use Rattle.house.specs.declared.answer.Verdict.the-variants.{Passed}
 
 -- THE BLOCKS
-
--- 12 and 13 are given exactly when a block is not what it must be.
-abbrev pub BlockPasses : Type 0
-BlockPasses = (b : List ℕ) (k q u : ℕ) → block-test b k q u ≡ Passed ↔ GoodBlock b k q u
-
--- Of the zero fill is told the first byte that should be zero and is not.
-abbrev pub FirstStray : Type 0
-FirstStray =
-    (b : List ℕ) (k i : ℕ)
-    → fill-test b k ≡ verdict.Refused (Block (Fill i) k)
-    ↔ ((i < check-at) × (stray b i ≡ true) × ((j : ℕ) → j < i → stray b j ≡ false))
 
 -- 11, 12 and 13 are given exactly when the file has not 1 to 15 whole blocks that are all good.
 abbrev pub FormPasses : Type 0

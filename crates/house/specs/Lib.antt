@@ -1,7 +1,6 @@
 pub mod Limits
 pub mod Verdicts
 pub mod Refusals
-pub mod Block
 pub mod File
 pub mod Reading
 pub mod Laws

@@ -14,10 +14,11 @@ use Rattle.table.specs.declared.answer.Refusal.the-variants as table
 use Rattle.table.specs.declared.answer.Test as table-test
 use Rattle.table.specs.declared.answer.Test.the-variants as table-variants
 use Rattle.monitor.specs.Run.{invalid-at}
-use Rattle.house.specs.Limits.{block-size, most-bytes, most-events, standard-states, standard-inputs, standard-outputs}
-use Rattle.house.specs.Verdicts.{must, of-table, then, first-of}
-use Rattle.house.specs.Block.{block-test}
-use Rattle.house.specs.File.{block-at, blocks, kind-before, used-before, rows-of, events-of, contents-of, front}
+use Rattle.block.specs.Limits.{block-size}
+use Rattle.block.specs.Block.{block-test}
+use Rattle.house.specs.Limits.{most-bytes, most-events, standard-states, standard-inputs, standard-outputs}
+use Rattle.house.specs.Verdicts.{must, of-block, of-table, then, first-of}
+use Rattle.house.specs.File.{block-at, blocks, block-before, rows-of, events-of, contents-of, front}
 use Rattle.house.specs.declared.answer.Refusal.the-variants as refusal
 use Rattle.house.specs.declared.answer.Verdict.{Verdict}
 use Rattle.house.specs.declared.answer.Verdict.the-variants.{Passed, Refused}
@@ -36,7 +37,7 @@ is-whole n = leb 1 n && (leb n most-bytes && eqb (n % block-size) 0)
 -- The first k blocks, block by block 12, 13.
 unfoldable pub blocks-test : List ℕ → ℕ → Verdict
 blocks-test s zero = Passed
-blocks-test s (suc k) = then (blocks-test s k) (block-test (block-at s k) k (kind-before s k) (used-before s k))
+blocks-test s (suc k) = then (blocks-test s k) (of-block (block-test (block-at s k) k (block-before s k)) k)
 
 -- WHAT IT HOLDS
 

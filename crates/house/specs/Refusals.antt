@@ -3,8 +3,8 @@
 use Prim.Native.Nat.{ℕ}
 use Rattle.table.specs.Refusals as table
 use Rattle.table.specs.declared.answer.Told.{Told}
-use Rattle.house.specs.declared.answer.Flaw.{Flaw}
-use Rattle.house.specs.declared.answer.Flaw.the-variants.{Check, Kind, Order, ByteOne, Number, Used, Source, Fill}
+use Rattle.block.specs.declared.answer.Flaw.{Flaw}
+use Rattle.block.specs.declared.answer.Flaw.the-variants.{Check, Kind, Order, ByteOne, Number, Used, Source, Fill}
 use Rattle.house.specs.declared.answer.Contents.{Contents}
 use Rattle.house.specs.declared.answer.Reading.{Reading}
 use Rattle.house.specs.declared.answer.Reading.the-variants as reading

@@ -4,7 +4,8 @@ use mathlib.Core.List.{List, [], _∷_}
 use Prim.Native.Nat.{ℕ}
 use Rattle.table.specs.declared.answer.Test as table-test
 use Rattle.table.specs.declared.answer.Test.the-variants as table
-use Rattle.house.specs.declared.answer.Flaw.{Flaw}
+use Rattle.block.specs.declared.answer.Test as block-test
+use Rattle.block.specs.declared.answer.Test.the-variants as block
 use Rattle.house.specs.declared.answer.Refusal.{Refusal}
 use Rattle.house.specs.declared.answer.Refusal.the-variants.{Block, Content}
 use Rattle.house.specs.declared.answer.Reading.{Reading}
@@ -17,9 +18,10 @@ abbrev pub must : Bool → Refusal → Verdict
 must true r = Passed
 must false r = Refused r
 
--- The test of a field of block k.
-abbrev pub field : Bool → Flaw → ℕ → Verdict
-field ok flaw k = must ok (Block flaw k)
+-- A test of block k.
+abbrev pub of-block : block-test.Test → ℕ → Verdict
+of-block block.Passed k = Passed
+of-block (block.Failed flaw) k = Refused (Block flaw k)
 
 -- A test of the crate `table`.
 abbrev pub of-table : table-test.Test → Verdict

@@ -1,22 +1,9 @@
 // The answers of this crate, and the number and places of document 01 for each refusal.
 ghost use mathlib.Core.Path.{_≡_};
 ghost use Rattle.house.specs.Refusals.{number-of, told};
-ghost use Rattle.house.specs.Verdicts.{must, field, then, is-passed, is-good, of-table};
+ghost use Rattle.house.specs.Verdicts.{must, then, is-passed, is-good, of-block, of-table};
+use block::Flaw;
 use table::Told;
-
-// What is wrong with a block. But for the check they are the fields of number 13, in the order in which they are looked at.
-pub enum Flaw {
-    Check,
-    Kind,
-    // A kind that may stand in a file, but not after the block before.
-    Order,
-    ByteOne,
-    Number,
-    Used,
-    Source,
-    // The place in the block of the first byte that should be zero and is not.
-    Fill(usize),
-}
 
 // Why a file is turned away. Over each variant stands its row of document 01's table; what the variant holds is the place told.
 pub enum Refusal {
@@ -72,13 +59,6 @@ pub(crate) fn must(ok: bool, refusal: Refusal) -> Verdict
     }
 }
 
-// The test of a field of block k.
-pub(crate) fn field(ok: bool, flaw: Flaw, k: usize) -> Verdict
-    ensures { λ r. ⌜ r ≡ field ok flaw k ⌝ }
-{
-    must(ok, Refusal::Block(flaw, k))
-}
-
 // One test, and the rest after it.
 pub(crate) fn then(first: Verdict, rest: Verdict) -> Verdict
     ensures { λ r. ⌜ r ≡ then first rest ⌝ }
@@ -104,6 +84,16 @@ pub(crate) fn is_good(r: Reading) -> bool
     match r {
         Reading::Good(_) => true,
         Reading::Refused(_) => false,
+    }
+}
+
+// A test of block k.
+pub(crate) fn of_block(test: block::Test, k: usize) -> Verdict
+    ensures { λ r. ⌜ r ≡ of-block test k ⌝ }
+{
+    match test {
+        block::Test::Passed => Verdict::Passed,
+        block::Test::Failed(flaw) => Verdict::Refused(Refusal::Block(flaw, k)),
     }
 }
 

@@ -14,11 +14,11 @@ use super::answer::must;
 use super::answer::of_table;
 use super::answer::passed;
 use super::answer::then;
-use super::block::EVENTS;
-use super::block::PAYLOAD_AT;
-use super::block::ROWS;
-use super::block::byte;
 use super::file;
+use block::EVENTS;
+use block::PAYLOAD_AT;
+use block::ROWS;
+use block::byte;
 
 const MOST_EVENTS: usize = 4096;
 

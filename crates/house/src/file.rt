@@ -3,15 +3,14 @@ ghost use mathlib.Core.Path.{_≡_};
 ghost use Prim.Native.Nat.{_+_, _<_, _≤_};
 ghost use lib.ListN.{length};
 ghost use lib.Seq.{paste};
-ghost use Rattle.house.specs.Limits.{block-size};
-ghost use Rattle.house.specs.File.{block-at, blocks, share, joined, events-of, put};
+ghost use Rattle.house.specs.File.{block-at, blocks, block-before, joined, events-of, put};
 ghost use Rattle.house.specs.Reading.{is-whole, blocks-test, form-test, place-or, valid-events};
 use super::answer::Refusal;
 use super::answer::Verdict;
+use super::answer::of_block;
 use super::answer::passed;
-use super::block;
-use super::block::BLOCK;
-use super::block::EVENTS;
+use block::BLOCK;
+use block::EVENTS;
 use monitor::run;
 use table::Test;
 
@@ -23,11 +22,22 @@ const MOST_BYTES: usize = MOST_BLOCKS * BLOCK;
 fn block_at(file: &[u8], k: usize) -> &[u8]
     requires { ⌜ k < blocks (now file) ⌝ }
     ensures { λ r. ⌜ now r ≡ block-at (now (file .entry)) k ⌝ }
-    ensures { λ r. ⌜ length (now r) ≡ block-size ⌝ }
 {
     let start = BLOCK * k;
     let end = start + BLOCK;
     &file[start..end]
+}
+
+// The block before block k; before block 0 stands nothing.
+fn block_before(file: &[u8], k: usize) -> &[u8]
+    requires { ⌜ k < blocks (now file) ⌝ }
+    ensures { λ r. ⌜ now r ≡ block-before (now (file .entry)) k ⌝ }
+{
+    if k == 0 {
+        &file[..0]
+    } else {
+        block_at(file, k - 1)
+    }
 }
 
 // Numbers 12 and 13, block by block: the first block at fault is told.
@@ -35,17 +45,13 @@ fn test(file: &[u8]) -> Verdict
     ensures { λ r. ⌜ r ≡ blocks-test (now (file .entry)) (blocks (now (file .entry))) ⌝ }
 {
     let n = file.len() / BLOCK;
-    let mut kind = 0;
-    let mut used = 0;
     let mut k = 0;
     while k < n {
-        let b = block_at(file, k);
-        let v = block::test(b, k, kind, used);
+        let test = block::test(block_at(file, k), k, block_before(file, k));
+        let v = of_block(test, k);
         if !passed(v) {
             return v;
         }
-        kind = block::kind(b);
-        used = block::used(b);
         k += 1;
     }
     Verdict::Passed
@@ -72,18 +78,6 @@ pub(crate) fn form(file: &[u8]) -> Verdict
     test(file)
 }
 
-// What block b gives to the payload of kind q.
-fn share(b: &[u8], q: u8) -> &[u8]
-    requires { ⌜ length (now b) ≡ block-size ⌝ }
-    ensures { λ r. ⌜ now r ≡ share q (now (b .entry)) ⌝ }
-{
-    if block::kind(b) == q {
-        block::payload(b)
-    } else {
-        &b[..0]
-    }
-}
-
 // How many bytes the blocks of kind q hold.
 pub(crate) fn measure(file: &[u8], q: u8) -> usize
     ensures { λ r. ⌜ r ≡ length (joined q (now (file .entry)) (blocks (now (file .entry)))) ⌝ }
@@ -92,7 +86,7 @@ pub(crate) fn measure(file: &[u8], q: u8) -> usize
     let mut sum = 0;
     let mut k = 0;
     while k < n {
-        sum += share(block_at(file, k), q).len();
+        sum += block::share(block_at(file, k), q).len();
         k += 1;
     }
     sum
@@ -121,7 +115,7 @@ pub(crate) fn gather(file: &[u8], q: u8, dst: &mut [u8])
     let mut at = 0;
     let mut k = 0;
     while k < n {
-        let part = share(block_at(file, k), q);
+        let part = block::share(block_at(file, k), q);
         copy(part, dst, at);
         at += part.len();
         k += 1;
@@ -156,7 +150,7 @@ pub(crate) fn valid_events(file: &[u8], inputs: u8, outputs: u8) -> usize
     let mut at = 0;
     let mut k = 0;
     while k < n {
-        let part = share(block_at(file, k), EVENTS);
+        let part = block::share(block_at(file, k), EVENTS);
         let good = valid(part, inputs, outputs);
         if good < part.len() {
             return at + good;

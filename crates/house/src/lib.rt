@@ -1,20 +1,19 @@
 // The reader of house files. It answers every file: with what the file holds, or with the first of document 01's refusals.
-// A refused file leaves the caller's buffers as they were. specs/Block.antt and specs/File.antt say what the bytes of a file mean,
-// specs/Reading.antt what is read.
+// A refused file leaves the caller's buffers as they were. The crate `block` has its blocks; specs/File.antt says what they hold
+// together, specs/Reading.antt what is read.
 ghost use Rattle.house.specs.Reading.{Answers};
 
 pub mod answer;
-mod block;
 mod content;
 mod file;
 
 pub use answer::Contents;
-pub use answer::Flaw;
 pub use answer::Reading;
 pub use answer::Refusal;
 pub use answer::Source;
 use answer::is_good;
 pub use answer::tell;
+pub use block::Flaw;
 
 // Reads a file: its rows to the start of one buffer, its events to the start of another. With source 1 there are no rows to copy.
 pub fn read(file: &[u8], rows: &mut [u8], events: &mut [u8]) -> Reading

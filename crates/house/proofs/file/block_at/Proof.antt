@@ -1,8 +1,6 @@
 -- `file::block_at` meets its contract. Assumes nothing.
-use mathlib.Core.Path.{ap, _∙_}
-use lib.ListN.{length}
 use borrow.Author.Needs.{needs}
-use Rattle.house.proofs.Files.{cut, cut-long}
+use Rattle.house.proofs.Files.{cut}
 use Rattle.house.proofs.file.block_at.Statement.{statement}
 use Rattle.house.proofs.file.block_at.Tie as tie
 
@@ -22,10 +20,7 @@ part-result-end : tie.Need-part-result-end
 part-result-end c = search needs
 
 returns : tie.Need-returns
-returns c =
-    let a = c .before .args in
-    let e = cut (a .file .now) (a .k) in
-    (e, ap length e ∙ cut-long (a .file .now) (a .k) (c .before .pre))
+returns c = cut (c .before .args .file .now) (c .before .args .k)
 
 pub block-at-spec : {M : Type 1} → statement M
 block-at-spec =

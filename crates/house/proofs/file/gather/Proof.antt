@@ -45,7 +45,7 @@ copy-requires c κs =
       l .inv .3,
       c .before .before .before .before .before .before .measure .ensures,
       c .before .before .before .before .before .if1 .left,
-      part-fits (a .q) (a .file .now) _ _ (l .k) (c .before .before .block-at .ensures .0) (c .before .share .ensures) (c .before .before .before .loop-test .taken),
+      part-fits (a .q) (a .file .now) _ _ (l .k) (c .before .before .block-at .ensures) (c .before .share .ensures) (c .before .before .before .loop-test .taken),
     )
 
 add-at : tie.Need-add-at Inv-loop μ-loop
@@ -57,7 +57,7 @@ add-at c =
       l .inv .1,
       c .before .before .before .before .before .before .before .before .before .measure .ensures,
       c .before .before .before .before .before .before .before .before .if1 .left,
-      part-fits (a .q) (a .file .now) _ _ (l .k) (c .before .before .before .before .before .block-at .ensures .0) (c .before .before .before .before .share .ensures) (c .before .before .before .before .before .before .loop-test .taken),
+      part-fits (a .q) (a .file .now) _ _ (l .k) (c .before .before .before .before .before .block-at .ensures) (c .before .before .before .before .share .ensures) (c .before .before .before .before .before .before .loop-test .taken),
     )
 
 add-k : tie.Need-add-k Inv-loop μ-loop
@@ -70,7 +70,7 @@ loop-again : tie.Need-loop-again Inv-loop μ-loop
 loop-again c =
     let a = c .before .before .before .before .before .before .before .before .before .before .before .before .args in
     let l = c .before .before .before .before .before .before .before .loop in
-    let b = c .before .before .before .before .before .block-at .ensures .0 in
+    let b = c .before .before .before .before .before .block-at .ensures in
     let p = c .before .before .before .before .share .ensures in (
       search needs,
       omega (arith, l .inv .1, part-adds (a .q) (a .file .now) _ _ (l .k) b p),

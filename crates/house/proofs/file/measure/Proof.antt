@@ -4,7 +4,7 @@ use Prim.Native.Nat.{_*_, _-_, _≤_}
 use native.Mathlib.Omega.{arith}
 use lib.ListN.{length}
 use borrow.Author.Needs.{needs}
-use Rattle.house.specs.Limits.{room}
+use Rattle.block.specs.Limits.{room}
 use Rattle.house.specs.File.{blocks, joined}
 use Rattle.house.proofs.Files.{joined-none, part-short, part-adds}
 use Rattle.house.proofs.file.measure.Statement.{statement}
@@ -28,7 +28,7 @@ share-requires c κs = search needs
 add-sum : tie.Need-add-sum Inv-loop μ-loop
 add-sum c =
     let a = c .before .before .before .before .before .args in
-    omega (arith, part-short (a .q) (a .file .now) _ _ (c .before .before .before .loop .k) (c .before .block-at .ensures .0) (c .share .ensures))
+    omega (arith, part-short (a .q) (a .file .now) _ _ (c .before .before .before .loop .k) (c .before .block-at .ensures) (c .share .ensures))
 
 add-k : tie.Need-add-k Inv-loop μ-loop
 add-k c = search needs
@@ -42,8 +42,8 @@ loop-again c =
     let k = c .before .before .before .loop .k in
     omega (
       arith,
-      part-short (a .q) (a .file .now) _ _ k (c .before .block-at .ensures .0) (c .share .ensures),
-      part-adds (a .q) (a .file .now) _ _ k (c .before .block-at .ensures .0) (c .share .ensures),
+      part-short (a .q) (a .file .now) _ _ k (c .before .block-at .ensures) (c .share .ensures),
+      part-adds (a .q) (a .file .now) _ _ k (c .before .block-at .ensures) (c .share .ensures),
     )
 
 returns : tie.Need-returns Inv-loop μ-loop

@@ -4,7 +4,7 @@ use Prim.Native.Nat.{_*_, _-_, _≤_}
 use native.Mathlib.Omega.{arith}
 use lib.ListN.{length}
 use borrow.Author.Needs.{needs}
-use Rattle.house.specs.Limits.{room, event-kind}
+use Rattle.block.specs.Limits.{room, event-kind}
 use Rattle.house.specs.File.{blocks, joined, events-of}
 use Rattle.house.proofs.Files.{joined-none, part-share, part-short, part-adds}
 use Rattle.house.proofs.Events.{Clean, valid-all, valid-known, clean-more, found}
@@ -32,13 +32,13 @@ valid-requires c κs = search needs
 add-result : tie.Need-add-result Inv-loop μ-loop
 add-result c =
     let l = c .before .before .before .before .before .loop in
-    omega (arith, l .inv .1, part-short event-kind (c .before .before .before .before .before .before .before .args .file .now) _ _ (l .k) (c .before .before .before .block-at .ensures .0) (c .before .before .share .ensures))
+    omega (arith, l .inv .1, part-short event-kind (c .before .before .before .before .before .before .before .args .file .now) _ _ (l .k) (c .before .before .before .block-at .ensures) (c .before .before .share .ensures))
 
 returns : tie.Need-returns Inv-loop μ-loop
 returns c =
     let a = c .before .before .before .before .before .before .before .args in
     let l = c .before .before .before .before .before .loop in
-    let b = c .before .before .before .block-at .ensures .0 in
+    let b = c .before .before .before .block-at .ensures in
     let p = c .before .before .share .ensures in
     let known = valid-known (a .inputs) (a .outputs) _ _ (c .before .valid .ensures) in
     found (a .inputs) (a .outputs) (a .file .now) _ (l .k) (l .at) (part-share event-kind (a .file .now) _ _ (l .k) b p) (l .inv .2) (c .before .before .before .before .loop-test .taken) (l .inv .3) known (c .if1 .taken)
@@ -46,7 +46,7 @@ returns c =
 add-at : tie.Need-add-at Inv-loop μ-loop
 add-at c =
     let l = c .before .before .before .before .before .loop in
-    omega (arith, l .inv .1, part-short event-kind (c .before .before .before .before .before .before .before .args .file .now) _ _ (l .k) (c .before .before .before .block-at .ensures .0) (c .before .before .share .ensures))
+    omega (arith, l .inv .1, part-short event-kind (c .before .before .before .before .before .before .before .args .file .now) _ _ (l .k) (c .before .before .before .block-at .ensures) (c .before .before .share .ensures))
 
 add-k : tie.Need-add-k Inv-loop μ-loop
 add-k c = search needs
@@ -59,7 +59,7 @@ loop-again c =
     let a = c .before .before .before .before .before .before .before .args in
     let l = c .before .before .before .before .before .loop in
     let s = a .file .now in
-    let b = c .before .before .before .block-at .ensures .0 in
+    let b = c .before .before .before .block-at .ensures in
     let p = c .before .before .share .ensures in
     let v = valid-known (a .inputs) (a .outputs) _ _ (c .before .valid .ensures) in (
       search needs,
