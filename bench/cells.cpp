@@ -1,7 +1,7 @@
 // A whole run over the set as the document has it, a word for each waiting count and run, with what is usually done to make that fast:
 // waiting counts behind a moved base, so that an arrival moves nothing and closes only the newest input; a union of states and a mask
 // of non-empty runs kept with each waiting count; images of unions, not of words; outputs only by the states that allow them, or
-// through tables of 256 images where many are live. It stands between naive.cpp and tuned.cpp, which keeps fewer words: the
+// through tables of images where many are live. It stands between naive.cpp and tuned.cpp, which keeps fewer words: the
 // difference to it is what the proved code can gain without a new idea.
 #include <cstring>
 
@@ -11,6 +11,12 @@
 using namespace monitors;
 
 namespace {
+
+// At an output 264 images are taken of one column, so its tables are large.
+using column = column_in_parts<8>;
+
+// Room for the tables of every column. It is kept from run to run: to get it anew costs more than to fill it.
+thread_local column::tables_of_column table_room[2 * most_symbols];
 
 constexpr size_t most_levels = most_waiting + 1;
 constexpr size_t window_levels = 256;
@@ -23,13 +29,7 @@ struct level {
 };
 
 inline uint64_t image(const column &c, uint64_t set) {
-    uint64_t image = 0;
-    if (c.tables && __builtin_popcountll(set) > 8) {
-        for (int part = 0; part < 8; ++part) image |= c.tables[part][set >> (8 * part) & 255];
-        return image;
-    }
-    for (set &= c.allowed; set; set &= set - 1) image |= 1ull << c.to[least(set)];
-    return image;
+    return c.tables && __builtin_popcountll(set) > 8 ? c.image_by_tables<most_states>(set) : c.image_by_states(set);
 }
 
 inline void sum(level &x) {
@@ -41,8 +41,7 @@ inline void send(level &x, const column &c) {
     uint64_t live = x.all & c.allowed;
     uint64_t after[runs] = {};
     if (c.tables && __builtin_popcountll(live) > 8) {
-        for (size_t r = 0; r < runs; ++r)
-            for (int part = 0; part < 8; ++part) after[r] |= c.tables[part][x.words[r] >> (8 * part) & 255];
+        for (size_t r = 0; r < runs; ++r) after[r] = c.image_by_tables<most_states>(x.words[r]);
     } else {
         for (; live; live &= live - 1) {
             unsigned s = least(live), t = c.to[s];
@@ -74,7 +73,7 @@ uint64_t follow(column *columns, size_t states, size_t inputs, size_t waiting, s
 
     auto used = [&](size_t i) -> const column * {
         column &c = columns[i];
-        if (!c.tables && ++c.uses == uses_before_tables && __builtin_popcountll(c.allowed) > 8) make_tables(c, table_room[i], states);
+        if (!c.tables && ++c.uses == uses_before_tables && __builtin_popcountll(c.allowed) > 8) c.make_tables(table_room[i], states);
         return &c;
     };
 
@@ -121,7 +120,7 @@ bool cells_run(const uint8_t *rows, size_t rows_len, size_t states, size_t input
     if (told_len < run_results) return false;
     if (!run_passes(rows, rows_len, states, inputs, outputs, waiting, losses, trace, trace_len, out_len, told)) return true;
     column columns[2 * most_symbols];
-    for (size_t i = 0; i < inputs + outputs; ++i) columns[i] = column_of(rows, states, inputs + outputs, i);
+    for (size_t i = 0; i < inputs + outputs; ++i) columns[i] = column(rows, states, inputs + outputs, i);
     uint64_t flag = follow(columns, states, inputs, waiting, losses, trace, trace_len, out);
     told[0] = told[1] = told[2] = 0, told[3] = flag;
     return true;

@@ -13,10 +13,10 @@ inline bool refuse(uint64_t *told, uint64_t number, uint64_t place, uint64_t sec
 
 inline bool within(size_t n, size_t most) { return 1 <= n && n <= most; }
 
-// Whether an entry of the first `count` is neither 255 nor below `states`.
+// Whether an entry of the first `count` is neither 255 nor below `states`: one more than 255 is 0 in a byte.
 inline bool leads_out(const uint8_t *entries, size_t count, uint8_t states) {
     uint8_t bad = 0;
-    for (size_t i = 0; i < count; ++i) bad |= uint8_t(entries[i] >= states) & uint8_t(entries[i] != not_allowed);
+    for (size_t i = 0; i < count; ++i) bad |= uint8_t(entries[i] + 1) > states;
     return bad != 0;
 }
 

@@ -114,6 +114,7 @@ void compare(bool same, const char *what, const std::string &where) {
 void compare_runs(const request &q, const std::string &where, bool with_naive) {
     results ours = results_of(rillmoth_run, q);
     compare(ours == results_of(tuned_run, q), "run, tuned", where);
+    compare(ours == results_of(tuned_run_other, q), "run, tuned by the other compiler", where);
     compare(ours == results_of(cells_run, q), "run, cells", where);
     if (with_naive) compare(ours == results_of(naive_run, q), "run, naive", where);
 }
@@ -213,6 +214,14 @@ size_t fitting(run_function *run, const workload &w, double nanoseconds) {
     }
 }
 
+// Of the two compilers' code for `tuned`, the faster counts.
+constexpr size_t ours_at = 0, tuned_at = 1, other_at = 2, cells_at = 3;
+
+std::vector<double> better(std::vector<double> t) {
+    t[tuned_at] = std::min(t[tuned_at], t[other_at]);
+    return t;
+}
+
 // Nanoseconds an event: medians of rounds in which each has its turn.
 std::vector<double> time_runs(const std::vector<run_function *> &runs, const workload &w, size_t events, size_t times) {
     request q = request_of(w, events);
@@ -230,6 +239,10 @@ std::vector<double> time_runs(const std::vector<run_function *> &runs, const wor
     std::vector<double> medians;
     for (auto &t : took) medians.push_back(median(t));
     return medians;
+}
+
+std::vector<double> time_all(const workload &w, size_t events, size_t times) {
+    return better(time_runs({rillmoth_run, tuned_run, tuned_run_other, cells_run}, w, events, times));
 }
 
 std::vector<double> time_feeds(const std::vector<feed_function *> &feeds, const workload &w, size_t events, size_t times) {
@@ -302,12 +315,12 @@ void print_runs(const std::vector<workload> &all, bool quick) {
     std::printf("\n| whole run, ns an event | naive | cells | tuned | ours | ours / tuned | ours / cells | naive / ours |\n");
     std::printf("|---|---|---|---|---|---|---|---|\n");
     for (const workload &w : all) {
-        std::vector<double> t = time_runs({rillmoth_run, tuned_run, cells_run}, w, fitting(rillmoth_run, w, 1e8), rounds);
+        std::vector<double> t = time_all(w, fitting(rillmoth_run, w, 1e8), rounds);
         // So slow that it has fewer events, and the proved run beside it the same.
         std::vector<double> slow = {0, 1};
         if (!quick) slow = time_runs({naive_run, rillmoth_run}, w, fitting(naive_run, w, 2e8), 3);
-        std::printf("| %s | %s | %s | %s | %s | %s | %s | %s |\n", w.name.c_str(), figure(slow[0]).c_str(), figure(t[2]).c_str(),
-                    figure(t[1]).c_str(), figure(t[0]).c_str(), figure(t[0] / t[1]).c_str(), figure(t[0] / t[2]).c_str(),
+        std::printf("| %s | %s | %s | %s | %s | %s | %s | %s |\n", w.name.c_str(), figure(slow[0]).c_str(), figure(t[cells_at]).c_str(),
+                    figure(t[tuned_at]).c_str(), figure(t[ours_at]).c_str(), figure(t[ours_at] / t[tuned_at]).c_str(), figure(t[ours_at] / t[cells_at]).c_str(),
                     figure(slow[0] / slow[1]).c_str());
         std::fflush(stdout);
     }
@@ -316,8 +329,8 @@ void print_runs(const std::vector<workload> &all, bool quick) {
 void print_feeds(const std::vector<workload> &all) {
     std::printf("\n| ns a feed | tuned | ours | ours / tuned |\n|---|---|---|---|\n");
     for (const workload &w : all) {
-        std::vector<double> t = time_feeds({rillmoth_feed, tuned_feed}, w, 5000, rounds);
-        std::printf("| %s | %s | %s | %s |\n", w.name.c_str(), figure(t[1]).c_str(), figure(t[0]).c_str(), figure(t[0] / t[1]).c_str());
+        std::vector<double> t = better(time_feeds({rillmoth_feed, tuned_feed, tuned_feed_other}, w, 5000, rounds));
+        std::printf("| %s | %s | %s | %s |\n", w.name.c_str(), figure(t[tuned_at]).c_str(), figure(t[ours_at]).c_str(), figure(t[ours_at] / t[tuned_at]).c_str());
         std::fflush(stdout);
     }
 }
@@ -325,9 +338,9 @@ void print_feeds(const std::vector<workload> &all) {
 // ---- growth
 
 void growth_row(const std::string &name, const workload &w, size_t events) {
-    std::vector<double> t = time_runs({rillmoth_run, tuned_run, cells_run}, w, events, 5);
-    std::printf("| %s | %s | %s | %s | %s |\n", name.c_str(), figure(t[2]).c_str(), figure(t[1]).c_str(), figure(t[0]).c_str(),
-                figure(t[0] / t[1]).c_str());
+    std::vector<double> t = time_all(w, events, 5);
+    std::printf("| %s | %s | %s | %s | %s |\n", name.c_str(), figure(t[cells_at]).c_str(), figure(t[tuned_at]).c_str(), figure(t[ours_at]).c_str(),
+                figure(t[ours_at] / t[tuned_at]).c_str());
     std::fflush(stdout);
 }
 

@@ -34,6 +34,6 @@ using open_function = bool(const uint8_t *rows, size_t rows_len, size_t states, 
 
 extern "C" {
 monitors::open_function rillmoth_open;
-monitors::run_function rillmoth_run, naive_run, cells_run, tuned_run;
-monitors::feed_function rillmoth_feed, tuned_feed;
+monitors::run_function rillmoth_run, naive_run, cells_run, tuned_run, tuned_run_other;
+monitors::feed_function rillmoth_feed, tuned_feed, tuned_feed_other;
 }

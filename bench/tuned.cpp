@@ -14,7 +14,7 @@
 //   the summary  needs the union of all F[j] and the least and the greatest j whose F[j] is not empty.
 //
 // An image is one or two masked rotations where the column moves states by at most two distances, as every column of the standard box
-// does; otherwise one look a byte into tables of 256 images, which are made where a column is used often enough.
+// does; otherwise looks into tables of images, which are made where a column is used often enough.
 //
 // FEED. A session may come from elsewhere and need not be closed, so the 264 words are worked on where they lie: every clause of
 // "sound" is tested without branches, and the sweep is the full one.
@@ -27,29 +27,19 @@ using namespace monitors;
 
 namespace {
 
-inline uint64_t image_by_rotation(const column &c, uint64_t set) {
-    return rotated(set & c.near_mask, c.near) | rotated(set & c.far_mask, c.far);
-}
+// Many columns are looked into at each output, so their tables are small.
+using column = column_in_parts<4>;
 
-// Any column. `parts` is how many eights of states there are.
-template <int parts>
-inline uint64_t image_by_look(const column &c, uint64_t set) {
-    uint64_t image = 0;
-    if (c.tables) {
-        for (int part = 0; part < parts; ++part) image |= c.tables[part][set >> (8 * part) & 255];
-        return image;
-    }
-    for (set &= c.allowed; set; set &= set - 1) image |= 1ull << c.to[least(set)];
-    return image;
-}
+// Room for the tables of every column. It is kept from run to run: to get it anew costs more than to fill it.
+thread_local column::tables_of_column table_room[2 * most_symbols];
 
-// `parts` is 0 where every column rotates.
-template <int parts>
+// `most` is how many states there may be, and 0 where every column rotates.
+template <size_t most>
 inline uint64_t image(const column &c, uint64_t set) {
-    if constexpr (parts == 0)
-        return image_by_rotation(c, set);
+    if constexpr (most == 0)
+        return c.image_by_rotation(set);
     else
-        return image_by_look<parts>(c, set);
+        return c.tables ? c.image_by_tables<most>(set) : c.image_by_states(set);
 }
 
 // The union of F[j], .. F[j + wide - 1], of which the caller makes the parts as j goes down: two and four at a time.
@@ -83,7 +73,7 @@ void put_empty_lines(uint8_t *out, size_t from, size_t to) {
 }
 
 // All events of a trace that passed its tests; the answer is the flag. `losses` is c.
-template <int losses, int parts>
+template <int losses, size_t most>
 uint64_t follow(column *columns, [[maybe_unused]] size_t states, size_t inputs, size_t waiting, const uint8_t *trace, size_t trace_len,
                 uint8_t *out) {
     uint64_t sets[window_room] = {};
@@ -103,8 +93,8 @@ uint64_t follow(column *columns, [[maybe_unused]] size_t states, size_t inputs, 
 
     auto used = [&](size_t at) -> const column * {
         column &c = columns[at];
-        if constexpr (parts != 0)
-            if (!c.tables && ++c.uses == uses_before_tables) make_tables(c, table_room[at], states);
+        if constexpr (most != 0)
+            if (!c.tables && ++c.uses == uses_before_tables) c.make_tables(table_room[at], states);
         return &c;
     };
 
@@ -124,8 +114,8 @@ uint64_t follow(column *columns, [[maybe_unused]] size_t states, size_t inputs, 
                 whole = now | rest;
                 rest = above.put(f, j);
             };
-            while (j > held) --j, put(image<parts>(sent, f[j]));
-            while (j > 0) --j, put(image<parts>(sent, f[j]) | image<parts>(*line[j], whole));
+            while (j > held) --j, put(image<most>(sent, f[j]));
+            while (j > 0) --j, put(image<most>(sent, f[j]) | image<most>(*line[j], whole));
         } else {
             if (base == 0) {
                 base = end;
@@ -138,7 +128,7 @@ uint64_t follow(column *columns, [[maybe_unused]] size_t states, size_t inputs, 
             held += held < waiting;
             uint64_t newest = 0;
             for (int r = 0; r < losses; ++r) newest |= f[1 + r];
-            f[0] = newest = image<parts>(*line[0], newest);
+            f[0] = newest = image<most>(*line[0], newest);
             alive = (alive << 1 & within_bounds) | uint64_t(newest != 0);
             all |= newest;
             if (f[diagonals] != 0) {
@@ -152,9 +142,9 @@ uint64_t follow(column *columns, [[maybe_unused]] size_t states, size_t inputs, 
             return k + 1;
         }
         // More inputs since the last take are more that may wait and more that may be lost, each within its bounds.
-        unsigned fewest = least(alive), most = greatest(alive);
-        put_line(out + 12 * k, all, fewest < losses ? 0 : fewest - (losses - 1), most < held ? most : unsigned(held),
-                 fewest < held ? 0 : fewest - unsigned(held), most < losses ? most : losses - 1);
+        unsigned fewest = least(alive), longest = greatest(alive);
+        put_line(out + 12 * k, all, fewest < losses ? 0 : fewest - (losses - 1), longest < held ? longest : unsigned(held),
+                 fewest < held ? 0 : fewest - unsigned(held), longest < losses ? longest : losses - 1);
     }
     return 0;
 }
@@ -165,10 +155,10 @@ uint64_t follow_columns(column *columns, size_t states, size_t inputs, size_t ou
     bool rotates = true;
     for (size_t i = 0; i < inputs + outputs; ++i) rotates &= columns[i].rotates;
     if (rotates) return follow<losses, 0>(columns, states, inputs, waiting, trace, trace_len, out);
-    if (states <= 8) return follow<losses, 1>(columns, states, inputs, waiting, trace, trace_len, out);
-    if (states <= 16) return follow<losses, 2>(columns, states, inputs, waiting, trace, trace_len, out);
-    if (states <= 32) return follow<losses, 4>(columns, states, inputs, waiting, trace, trace_len, out);
-    return follow<losses, 8>(columns, states, inputs, waiting, trace, trace_len, out);
+    if (states <= 8) return follow<losses, 8>(columns, states, inputs, waiting, trace, trace_len, out);
+    if (states <= 16) return follow<losses, 16>(columns, states, inputs, waiting, trace, trace_len, out);
+    if (states <= 32) return follow<losses, 32>(columns, states, inputs, waiting, trace, trace_len, out);
+    return follow<losses, 64>(columns, states, inputs, waiting, trace, trace_len, out);
 }
 
 }  // namespace
@@ -178,7 +168,7 @@ bool tuned_run(const uint8_t *rows, size_t rows_len, size_t states, size_t input
     if (told_len < run_results) return false;
     if (!run_passes(rows, rows_len, states, inputs, outputs, waiting, losses, trace, trace_len, out_len, told)) return true;
     column columns[2 * most_symbols];
-    for (size_t i = 0; i < inputs + outputs; ++i) columns[i] = column_of(rows, states, inputs + outputs, i);
+    for (size_t i = 0; i < inputs + outputs; ++i) columns[i] = column(rows, states, inputs + outputs, i);
     using follower = uint64_t(column *, size_t, size_t, size_t, size_t, const uint8_t *, size_t, uint8_t *);
     static follower *const by_losses[most_losses] = {follow_columns<1>, follow_columns<2>, follow_columns<3>, follow_columns<4>,
                                                      follow_columns<5>, follow_columns<6>, follow_columns<7>, follow_columns<8>};
