@@ -227,14 +227,18 @@ std::vector<double> time_runs(const std::vector<run_function *> &runs, const wor
     request q = request_of(w, events);
     results r = fresh_results(q);
     std::vector<std::vector<double>> took(runs.size());
-    for (run_function *run : runs) call(run, q, r);
-    // A short trace is run several times in a round: the clock is coarse.
-    size_t repeats = std::max<size_t>(1, 20000 / std::max<size_t>(1, q.trace.size()));
+    // What is over soon is done several times in a round: the clock is coarse.
+    std::vector<size_t> repeats;
+    for (run_function *run : runs) {
+        double before = now();
+        call(run, q, r);
+        repeats.push_back(1 + size_t(5e6 / std::max(now() - before, 1.0)));
+    }
     for (size_t round = 0; round < times; ++round)
         for (size_t i = 0; i < runs.size(); ++i) {
             double before = now();
-            for (size_t k = 0; k < repeats; ++k) call(runs[i], q, r);
-            took[i].push_back((now() - before) / double(repeats * q.trace.size()));
+            for (size_t k = 0; k < repeats[i]; ++k) call(runs[i], q, r);
+            took[i].push_back((now() - before) / double(repeats[i] * q.trace.size()));
         }
     std::vector<double> medians;
     for (auto &t : took) medians.push_back(median(t));
@@ -371,19 +375,24 @@ void print_growth() {
 
 // ---- one, for a profiler
 
+// Over and over for two seconds, so that making the workloads hardly shows.
 int one(const std::string &who, size_t which, size_t events) {
     std::vector<workload> all = workloads();
     if (which >= all.size()) return 2;
     const workload &w = all[which];
-    if (who == "our-feed" || who == "tuned-feed") {
-        session s = opened(w);
-        for (size_t k = 0; k < std::min(events, w.trace.size()); ++k)
-            call(who == "our-feed" ? rillmoth_feed : tuned_feed, s, w.trace[k]);
-        return 0;
-    }
     run_function *run = who == "ours" ? rillmoth_run : who == "tuned" ? tuned_run : who == "cells" ? cells_run : nullptr;
-    if (!run) return 2;
-    results_of(run, request_of(w, events));
+    feed_function *feed = who == "our-feed" ? rillmoth_feed : who == "tuned-feed" ? tuned_feed : nullptr;
+    if (!run && !feed) return 2;
+    request q = request_of(w, events);
+    results r = fresh_results(q);
+    for (double end = now() + 2e9; now() < end;) {
+        if (run) {
+            call(run, q, r);
+        } else {
+            session s = opened(w);
+            for (uint8_t event : q.trace) call(feed, s, event);
+        }
+    }
     return 0;
 }
 

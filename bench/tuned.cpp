@@ -284,11 +284,22 @@ void send(uint64_t *set, const uint8_t *rows, size_t width, size_t at, size_t le
             for (size_t k = 0; k < half; ++k) tables[part][half + k] = tables[part][k] | bit;
         }
     }
-    for (size_t i = 0; i < runs * levels; ++i) {
-        uint64_t image = 0;
-        if (set[i] & allowed)
-            for (size_t part = 0; part < 16; ++part) image |= tables[part][set[i] >> (4 * part) & 15];
-        set[i] = image;
+    // In a closed set a word is that of one more waiting and a run of one less, so its image is at hand: from the longest line to the
+    // shortest, the level above is kept as it was and as it is. In any other set the words differ, and an image is taken.
+    uint64_t above[runs] = {}, above_after[runs] = {};
+    for (size_t w = levels; w-- > 0;) {
+        uint64_t after[runs], *level = set + runs * w;
+        for (size_t r = 0; r < runs; ++r) {
+            uint64_t image = 0;
+            if (r > 0 && level[r] == above[r - 1])
+                image = above_after[r - 1];
+            else if (level[r] & allowed)
+                for (size_t part = 0; part < 16; ++part) image |= tables[part][level[r] >> (4 * part) & 15];
+            after[r] = image;
+        }
+        std::memcpy(above, level, sizeof above);
+        std::memcpy(above_after, after, sizeof after);
+        std::memcpy(level, after, sizeof after);
     }
 }
 
