@@ -16,9 +16,9 @@ native_farm() { # KIT FARM KEPT
   machine=$(uname -m)
   rm -rf "$farm"
   mkdir -p "$farm/on/$machine/toolchain/bin" || return 1
-  ln -s "$kit"/* "$farm"/ 2>/dev/null # all but `on`, which is a folder already
-  ln -s "$kit/on/$machine"/* "$farm/on/$machine"/ 2>/dev/null
-  ln -s "$kit/on/$machine/toolchain"/* "$farm/on/$machine/toolchain"/ 2>/dev/null
+  ln -s "$kit"/* "$farm"/ 2>/dev/null || true # all but `on`, which is a folder already
+  ln -s "$kit/on/$machine"/* "$farm/on/$machine"/ 2>/dev/null || true
+  ln -s "$kit/on/$machine/toolchain"/* "$farm/on/$machine/toolchain"/ 2>/dev/null || true
   ln -s "$kit/on/$machine/toolchain/bin"/* "$farm/on/$machine/toolchain/bin"/
   rm "$farm/on/$machine/toolchain/bin/clang"
   {
