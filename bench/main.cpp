@@ -119,13 +119,15 @@ void compare_runs(const request &q, const std::string &where, bool with_naive) {
     if (with_naive) compare(ours == results_of(naive_run, q), "run, naive", where);
 }
 
-// Both are fed the same events; one that is refused leaves the session to the next.
+// All are fed the same events; one that is refused leaves the session to the next.
 void compare_feeds(session s, const std::vector<uint8_t> &events, const std::string &where) {
-    session other = s;
+    session tuned = s, other = s;
     for (uint8_t event : events) {
         call(rillmoth_feed, s, event);
-        call(tuned_feed, other, event);
-        compare(s == other, "feed, tuned", where);
+        call(tuned_feed, tuned, event);
+        call(tuned_feed_other, other, event);
+        compare(s == tuned, "feed, tuned", where);
+        compare(s == other, "feed, tuned by the other compiler", where);
     }
 }
 
@@ -299,19 +301,20 @@ std::vector<workload> workloads() {
     all.push_back(walked(random, "dense table of 64 states, B 32, c 8", random_box(random, 64, 16, 16, 7), {32, 8}, 100000));
     all.push_back(walked(random, "table T, B 2, c 1", small_box(), {2, 1}, 400000));
     workload early = walked(random, "standard box, B 32, c 8, flagged early", standard_box(), {32, 8}, 100000);
-    // Report 9, before any poll that could have led to it.
+    // A report that no box could send there, so that the flag falls at it.
     early.trace[20] = first_output + 9;
     all.push_back(early);
     return all;
 }
 
 void print_workloads(const std::vector<workload> &all) {
-    std::printf("| workload | events | inputs among them | configurations, mean |\n|---|---|---|---|\n");
+    std::printf("\n| workload | events | inputs among them | configurations, mean | flagged at |\n|---|---|---|---|---|\n");
     for (const workload &w : all) {
         size_t inputs = 0;
         for (uint8_t event : w.trace) inputs += event < first_output;
-        std::printf("| %s | %s | %s | %s |\n", w.name.c_str(), figure(double(w.trace.size())).c_str(), figure(double(inputs)).c_str(),
-                    figure(mean_configurations(w, 5000)).c_str());
+        uint64_t flag = results_of(rillmoth_run, request_of(w, w.trace.size())).told[3];
+        std::printf("| %s | %s | %s | %s | %s |\n", w.name.c_str(), figure(double(w.trace.size())).c_str(), figure(double(inputs)).c_str(),
+                    figure(mean_configurations(w, 5000)).c_str(), flag == 0 ? "-" : std::to_string(flag - 1).c_str());
     }
 }
 
@@ -323,9 +326,10 @@ void print_runs(const std::vector<workload> &all, bool quick) {
         // So slow that it has fewer events, and the proved run beside it the same.
         std::vector<double> slow = {0, 1};
         if (!quick) slow = time_runs({naive_run, rillmoth_run}, w, fitting(naive_run, w, 2e8), 3);
-        std::printf("| %s | %s | %s | %s | %s | %s | %s | %s |\n", w.name.c_str(), figure(slow[0]).c_str(), figure(t[cells_at]).c_str(),
+        auto unless_quick = [&](double x) { return quick ? std::string("-") : figure(x); };
+        std::printf("| %s | %s | %s | %s | %s | %s | %s | %s |\n", w.name.c_str(), unless_quick(slow[0]).c_str(), figure(t[cells_at]).c_str(),
                     figure(t[tuned_at]).c_str(), figure(t[ours_at]).c_str(), figure(t[ours_at] / t[tuned_at]).c_str(), figure(t[ours_at] / t[cells_at]).c_str(),
-                    figure(slow[0] / slow[1]).c_str());
+                    unless_quick(slow[0] / slow[1]).c_str());
         std::fflush(stdout);
     }
 }
@@ -343,12 +347,16 @@ void print_feeds(const std::vector<workload> &all) {
 
 void growth_row(const std::string &name, const workload &w, size_t events) {
     std::vector<double> t = time_all(w, events, 5);
-    std::printf("| %s | %s | %s | %s | %s |\n", name.c_str(), figure(t[cells_at]).c_str(), figure(t[tuned_at]).c_str(), figure(t[ours_at]).c_str(),
-                figure(t[ours_at] / t[tuned_at]).c_str());
+    size_t outputs = 0, all = std::min(events, w.trace.size());
+    for (size_t k = 0; k < all; ++k) outputs += w.trace[k] >= first_output;
+    std::printf("| %s | %zu %% | %s | %s | %s | %s |\n", name.c_str(), (100 * outputs + all / 2) / all, figure(t[cells_at]).c_str(),
+                figure(t[tuned_at]).c_str(), figure(t[ours_at]).c_str(), figure(t[ours_at] / t[tuned_at]).c_str());
     std::fflush(stdout);
 }
 
-void growth_head(const char *what) { std::printf("\n| %s | cells | tuned | ours | ours / tuned |\n|---|---|---|---|---|\n", what); }
+void growth_head(const char *what) {
+    std::printf("\n| %s | outputs | cells | tuned | ours | ours / tuned |\n|---|---|---|---|---|---|\n", what);
+}
 
 void print_growth() {
     generator random(20260102);
@@ -412,7 +420,7 @@ int main(int count, char **words) {
         compare_runs(request_of(w, 100), w.name, true);
         compare_feeds(opened(w), std::vector<uint8_t>(w.trace.begin(), w.trace.begin() + 2000), w.name);
     }
-    std::printf("Compared byte for byte: %zu runs and feeds, %zu different.\n\n", compared, different);
+    std::printf("Compared byte for byte: %zu runs and feeds, %zu different.\n", compared, different);
     if (different != 0) return 1;
 
     if (growth) {
