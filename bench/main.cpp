@@ -328,7 +328,8 @@ void print_runs(const std::vector<workload> &all, bool quick) {
         if (!quick) slow = time_runs({naive_run, rillmoth_run}, w, fitting(naive_run, w, 2e8), 3);
         auto unless_quick = [&](double x) { return quick ? std::string("-") : figure(x); };
         std::printf("| %s | %s | %s | %s | %s | %s | %s | %s |\n", w.name.c_str(), unless_quick(slow[0]).c_str(), figure(t[cells_at]).c_str(),
-                    figure(t[tuned_at]).c_str(), figure(t[ours_at]).c_str(), figure(t[ours_at] / t[tuned_at]).c_str(), figure(t[ours_at] / t[cells_at]).c_str(),
+                    figure(t[tuned_at]).c_str(), figure(t[ours_at]).c_str(), figure(t[ours_at] / t[tuned_at]).c_str(),
+                    figure(t[ours_at] / t[cells_at]).c_str(),
                     unless_quick(slow[0] / slow[1]).c_str());
         std::fflush(stdout);
     }
@@ -338,7 +339,8 @@ void print_feeds(const std::vector<workload> &all) {
     std::printf("\n| ns a feed | tuned | ours | ours / tuned |\n|---|---|---|---|\n");
     for (const workload &w : all) {
         std::vector<double> t = better(time_feeds({rillmoth_feed, tuned_feed, tuned_feed_other}, w, 5000, rounds));
-        std::printf("| %s | %s | %s | %s |\n", w.name.c_str(), figure(t[tuned_at]).c_str(), figure(t[ours_at]).c_str(), figure(t[ours_at] / t[tuned_at]).c_str());
+        std::printf("| %s | %s | %s | %s |\n", w.name.c_str(), figure(t[tuned_at]).c_str(), figure(t[ours_at]).c_str(),
+                    figure(t[ours_at] / t[tuned_at]).c_str());
         std::fflush(stdout);
     }
 }
