@@ -135,7 +135,8 @@ fn damage(random: &mut Random, session: &mut Session) {
         10 => session.set = Set::empty(),
         11 => session.events = random.pick(&[0, session.arrived.wrapping_sub(1), MOST_EVENTS + 1, u64::MAX]),
         12 => session.arrived = random.pick(&[0, session.events.wrapping_add(1), MOST_EVENTS + 1, u64::MAX]),
-        _ => session.flag = random.pick(&[None, Some(0), Some(session.events), Some(u64::MAX - 1)]),
+        // A place of u64::MAX has no word in the layout, which holds the place and one more.
+        _ => session.flag = random.pick(&[None, Some(0), Some(session.events.min(u64::MAX - 1)), Some(u64::MAX - 1)]),
     }
 }
 
