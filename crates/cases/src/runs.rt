@@ -2,8 +2,7 @@
 use crate::figures;
 use crate::figures::Figures;
 use crate::print;
-use monitor::run;
-use monitor::run::Ran;
+use run::Ran;
 use table::Test;
 
 // The most bytes of results that a line may ask for.

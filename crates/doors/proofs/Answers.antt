@@ -10,10 +10,10 @@ use borrow.Author.Tests.{leb-true}
 use Rattle.table.proofs.Checks.{both}
 use Rattle.monitor.specs.declared.session.Opened.{Opened}
 use Rattle.monitor.specs.declared.feed.Fed.{Fed}
-use Rattle.monitor.specs.declared.run.Ran.{Ran}
+use Rattle.run.specs.declared.Ran.{Ran}
 use Rattle.monitor.specs.Open.{opened}
 use Rattle.monitor.specs.Feed.{Feeds}
-use Rattle.monitor.specs.Run.{Runs}
+use Rattle.run.specs.Run.{Runs}
 use Rattle.house.specs.declared.answer.Reading.{Reading}
 use Rattle.house.specs.File.{front}
 use Rattle.house.specs.Reading.{Answers}

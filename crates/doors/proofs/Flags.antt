@@ -20,14 +20,15 @@ use Rattle.monitor.specs.declared.session.Session.{Session}
 use Rattle.monitor.specs.declared.session.Flag.{Flag}
 use Rattle.monitor.specs.declared.session.Flag.the-variants as flag
 use Rattle.monitor.specs.declared.feed.Fed.{Fed}
-use Rattle.monitor.specs.declared.run.Ran.{Ran}
+use Rattle.run.specs.declared.Ran.{Ran}
 use Rattle.monitor.specs.Open.{then, opening, begun, zero-session, with-session, opened}
 use Rattle.monitor.specs.Session.{FlagFits}
 use Rattle.monitor.specs.Feed as feed
 use Rattle.monitor.specs.Feed.{Feeds}
 use Rattle.monitor.specs.Laws.{Proper, place-of}
-use Rattle.monitor.specs.Run as run
-use Rattle.monitor.specs.Run.{limit-test, events-test, buffer-test, traced, run-test, Runs}
+use Rattle.run.specs.Run as run
+use Rattle.table.specs.Tests.{events-test}
+use Rattle.run.specs.Run.{limit-test, buffer-test, traced, run-test, Runs}
 use Rattle.monitor.proofs.Laws.{fed-sound}
 use Rattle.doors.specs.Layout.{flag-word}
 

@@ -5,8 +5,9 @@ use Prim.Native.Nat.{ℕ}
 use Rattle.table.proofs.Checks.{clash}
 use Rattle.monitor.specs.declared.session.Opened.{Opened}
 use Rattle.monitor.specs.declared.feed.Fed.{Fed}
-use Rattle.monitor.specs.declared.run.Ran.{Ran}
-use Rattle.monitor.proofs.Laws.{one-feed, one-run}
+use Rattle.run.specs.declared.Ran.{Ran}
+use Rattle.monitor.proofs.Laws.{one-feed}
+use Rattle.run.proofs.Laws.{one-run}
 use Rattle.house.specs.declared.answer.Reading.{Reading}
 use Rattle.house.specs.File.{front}
 use Rattle.house.proofs.Laws.{one-reading}

@@ -8,10 +8,10 @@ use lib.Dec.{leb}
 use lib.ListN.{length}
 use Rattle.monitor.specs.declared.session.Opened.{Opened}
 use Rattle.monitor.specs.declared.feed.Fed.{Fed}
-use Rattle.monitor.specs.declared.run.Ran.{Ran}
+use Rattle.run.specs.declared.Ran.{Ran}
 use Rattle.monitor.specs.Open.{opened}
 use Rattle.monitor.specs.Feed.{Feeds}
-use Rattle.monitor.specs.Run.{Runs}
+use Rattle.run.specs.Run.{Runs}
 use Rattle.house.specs.declared.answer.Reading.{Reading}
 use Rattle.house.specs.File.{front}
 use Rattle.house.specs.Reading.{Answers}

@@ -6,7 +6,7 @@ use Rattle.table.specs.Refusals as table
 use Rattle.table.specs.declared.answer.Told.{Told}
 use Rattle.table.specs.declared.answer.Test.{Test}
 use Rattle.table.specs.declared.answer.Test.the-variants.{Passed, Refused}
-use Rattle.monitor.specs.declared.run.Ran.{Ran}
+use Rattle.run.specs.declared.Ran.{Ran}
 use Rattle.house.specs.Refusals.{told-of, results}
 use Rattle.house.specs.declared.answer.Source.{Source}
 use Rattle.house.specs.declared.answer.Source.the-variants.{Rows, Standard}

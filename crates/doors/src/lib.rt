@@ -14,7 +14,6 @@ ghost use Prim.Native.Nat.{_≤_};
 use house;
 use lister::Outcome;
 use monitor::feed;
-use monitor::run;
 use monitor::session;
 
 mod layout;

@@ -9,7 +9,7 @@ use crate::layout;
 use house::Contents;
 use house::Reading;
 use house::Source;
-use monitor::run::Ran;
+use run::Ran;
 use table::Test;
 use table::Told;
 

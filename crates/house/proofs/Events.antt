@@ -7,20 +7,19 @@ use Prim.Native.Nat.{ℕ, _+_, _-_, _≤_, _<_}
 use native.Mathlib.Decide.{decLt}
 use native.Mathlib.Omega.{arith}
 use lib.ListN.{length}
-use Rattle.table.proofs.Laws.{found-none, found-first, event-told}
-use Rattle.monitor.proofs.Laws.{events-pass, first-invalid}
+use Rattle.table.proofs.Laws.{found-none, found-first, events-pass, first-invalid, event-told}
 use Rattle.table.specs.Bytes.{symbol-of}
 use Rattle.table.specs.First.{first}
 use Rattle.block.specs.Limits.{event-kind}
 use Rattle.block.specs.Block.{share}
 use Rattle.house.specs.File.{block-at, blocks, joined, events-of}
 use Rattle.table.specs.declared.answer.Told.{Told}
-use Rattle.monitor.specs.Run.{is-invalid, invalid-at, events-test}
+use Rattle.table.specs.Tests.{is-invalid, invalid-at, events-test}
 use Rattle.house.specs.Reading.{place-or, valid-events, or-else}
 use Rattle.house.proofs.Files.{joined-at, joined-fits}
 
 module _ (i o : ℕ) where
-  -- the place that the monitor's test of events tells
+  -- the place that the test of events tells
   pub valid-told : (es : List ℕ) → place-or (events-test es i o) (length es) ≡ valid-events i o es
   unfolding valid-events
   valid-told es = go (first (invalid-at es i o) (length es)) refl

@@ -18,7 +18,7 @@ use Rattle.table.specs.declared.answer.Refusal.the-variants as told
 use Rattle.table.specs.declared.answer.Symbol.{Symbol}
 use Rattle.table.specs.declared.answer.Symbol.the-variants.{Input, Output, Invalid}
 use Rattle.table.specs.declared.answer.Test.the-variants as table
-use Rattle.monitor.specs.Run.{is-invalid}
+use Rattle.table.specs.Tests.{is-invalid}
 use Rattle.house.specs.Limits.{most-events, standard-states, standard-inputs, standard-outputs}
 use Rattle.house.specs.Verdicts.{of-table}
 use Rattle.house.specs.File.{rows-of, events-of, contents-of}

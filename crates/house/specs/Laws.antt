@@ -10,7 +10,7 @@ use Rattle.table.specs.Bytes.{symbol-of, table-of}
 use Rattle.table.specs.declared.answer.Symbol.the-variants.{Invalid}
 use Rattle.house.specs.Limits.{most-events, standard-states, standard-inputs, standard-outputs}
 use Rattle.house.specs.File.{GoodForm, rows-of, events-of, contents-of}
-use Rattle.monitor.specs.Run.{invalid-at}
+use Rattle.table.specs.Tests.{invalid-at}
 use Rattle.house.specs.Reading.{valid-events, form-test, verdict, Answers}
 use Rattle.house.specs.declared.answer.Contents.{Contents}
 use Rattle.house.specs.declared.answer.Reading.{Reading}

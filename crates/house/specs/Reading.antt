@@ -8,12 +8,11 @@ use lib.Dec.{eqb, leb}
 use lib.ListN.{length}
 use Rattle.table.specs.Bytes.{table-of}
 use Rattle.table.specs.First.{first}
-use Rattle.table.specs.Tests.{counts-test, length-test, entries-test, bounds-test}
+use Rattle.table.specs.Tests.{counts-test, length-test, entries-test, bounds-test, invalid-at}
 use Rattle.table.specs.Refusals.{told}
 use Rattle.table.specs.declared.answer.Refusal.the-variants as table
 use Rattle.table.specs.declared.answer.Test as table-test
 use Rattle.table.specs.declared.answer.Test.the-variants as table-variants
-use Rattle.monitor.specs.Run.{invalid-at}
 use Rattle.block.specs.Limits.{block-size}
 use Rattle.block.specs.Block.{block-test}
 use Rattle.house.specs.Limits.{most-bytes, most-events, standard-states, standard-inputs, standard-outputs}

@@ -11,7 +11,6 @@ use super::answer::of_block;
 use super::answer::passed;
 use block::BLOCK;
 use block::EVENTS;
-use monitor::run;
 use table::Test;
 
 const MOST_BLOCKS: usize = 15;
@@ -139,7 +138,7 @@ fn place_or(test: Test, n: usize) -> usize
 fn valid(events: &[u8], inputs: u8, outputs: u8) -> usize
     ensures { λ r. ⌜ r ≡ valid-events inputs outputs (now (events .entry)) ⌝ }
 {
-    place_or(run::events(events, inputs, outputs), events.len())
+    place_or(table::events(events, inputs, outputs), events.len())
 }
 
 // The same of all events of a file, block by block: nothing is copied to look at them.

@@ -18,7 +18,7 @@ use Rattle.states.specs.Decides.{Decides}
 use Rattle.states.proofs.Same.{none-in, zero-none}
 use Rattle.states.proofs.Ends.{below-by}
 use Rattle.monitor.proofs.Laws.{opening-passes}
-use Rattle.monitor.specs.Run.{StateOf, number, Line}
+use Rattle.run.specs.Run.{StateOf, number, Line}
 use Rattle.lines.specs.Texts.{decimal, hexadecimal}
 use Rattle.lines.specs.Lines.{space, line-feed, symbol, four, states-in, pair, event-line}
 use Rattle.lines.specs.Laws.{SymbolShown, Tells, LineTells}

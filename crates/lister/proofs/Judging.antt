@@ -8,7 +8,7 @@ use lib.Dec.{leb}
 use lib.ListN.{length, take}
 use borrow.Author.Tests.{leb-false}
 use Rattle.table.specs.declared.answer.Test.{Test}
-use Rattle.monitor.specs.declared.run.Ran.{Ran}
+use Rattle.run.specs.declared.Ran.{Ran}
 use Rattle.model.specs.Table.{Valid}
 use Rattle.table.specs.Bytes.{table-of}
 use Rattle.table.specs.Tests.{must}
@@ -17,9 +17,10 @@ use Rattle.table.specs.declared.answer.Refusal.the-variants.{Buffer}
 use Rattle.table.specs.declared.answer.Test.the-variants.{Passed}
 use Rattle.table.specs.declared.answer.Test.the-variants as test
 use Rattle.monitor.specs.Open.{opening}
-use Rattle.monitor.specs.Run.{run-test, refused as run-refused, ran as run-ran}
-use Rattle.monitor.specs.RunLaws.{GoodTrace}
-use Rattle.monitor.proofs.Laws.{opening-passes, run-passes, room-decides}
+use Rattle.run.specs.Run.{run-test, refused as run-refused, ran as run-ran}
+use Rattle.run.specs.Laws.{GoodTrace}
+use Rattle.monitor.proofs.Laws.{opening-passes}
+use Rattle.run.proofs.Laws.{run-passes, room-decides}
 use Rattle.standard.proofs.Laws.{is-valid}
 use Rattle.house.specs.File.{rows-of, events-of, contents-of, front}
 use Rattle.house.specs.Reading.{verdict, answer, after, Answers}

@@ -7,10 +7,10 @@ use native.Mathlib.Omega.{arith}
 use lib.ListN.{length}
 use Rattle.table.specs.Bytes.{table-of}
 use Rattle.model.specs.Table.{Valid}
-use Rattle.monitor.specs.Run.{ran}
-use Rattle.monitor.specs.declared.run.Ran.{Ran}
+use Rattle.run.specs.Run.{ran}
+use Rattle.run.specs.declared.Ran.{Ran}
 use Rattle.monitor.specs.declared.session.Flag.{Flag}
-use Rattle.monitor.proofs.Laws.{one-run}
+use Rattle.run.proofs.Laws.{one-run}
 use Rattle.house.specs.File.{rows-of, events-of, contents-of}
 use Rattle.house.specs.Laws.{GoodRows, GoodFile}
 use Rattle.house.specs.Reading.{verdict}

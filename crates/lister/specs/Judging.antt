@@ -6,8 +6,8 @@ use lib.ListN.{length}
 use Rattle.table.specs.declared.answer.Refusal.the-variants.{Buffer}
 use Rattle.table.specs.declared.answer.Test.{Test}
 use Rattle.table.specs.declared.answer.Test.the-variants as test
-use Rattle.monitor.specs.Run.{Runs, RunTo}
-use Rattle.monitor.specs.declared.run.Ran.{Ran}
+use Rattle.run.specs.Run.{Runs, RunTo}
+use Rattle.run.specs.declared.Ran.{Ran}
 use Rattle.monitor.specs.declared.session.Flag.{Flag}
 use Rattle.standard.specs.Box.{standard-rows}
 use Rattle.house.specs.File.{rows-of, events-of, contents-of, front}

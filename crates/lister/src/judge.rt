@@ -3,7 +3,6 @@ use house::Contents;
 use house::Reading;
 use house::Refusal;
 use house::Source;
-use monitor::run;
 use monitor::session::Flag;
 use table::Test;
 ghost use mathlib.Core.Path.{_≡_};

@@ -16,6 +16,7 @@ use Rattle.model.specs.Levels.{oldest, Taken, Lost, Swept}
 use Rattle.model.proofs.Flags.{lt-or-ge}
 use Rattle.states.specs.In.{In, Has}
 use Rattle.states.specs.Rows.{Leads}
+use Rattle.monitor.proofs.Entries.{of-leads, leads}
 use Rattle.monitor.specs.Sets.{InCell, Holds, Beside, Took, Lowered, SweptFrom, Packed, Ready, Contained}
 
 -- equal words have the same states
@@ -92,32 +93,6 @@ module _ (rows : List ℕ) (wide c : ℕ) (h : List ℕ) (top : ℕ) (before : L
         -- a level from w up is w, or above it
         pick : (v : ℕ) (P : ℕ → Type 0) → w ≤ v → P w → (suc w ≤ v → P v) → P v
         pick v P i p q = ⊎-elim (λ k. q k) (λ k. let e : v ≡ w = omega arith in rw e p) (lt-or-ge w v)
-
--- ENTRIES
-
-module _ (T : Table) (rows : List ℕ) (valid : Valid T) (packed : Packed T rows) (s k t : ℕ) (state : s < T .states) (column : k < width T) where
-  -- a byte that is a next state is no 255
-  of-byte : (b : Bool) → eqb (byte T s k) 255 ≡ b → byte T s k < 64 → cond {A = Option ℕ} b none (some (byte T s k)) ≡ some (byte T s k)
-  of-byte true e l = absurd (omega (arith, eqb-true (byte T s k) 255 e))
-  of-byte false e l = refl
-
-  pub of-leads : Leads rows (width T) k s t → entry T s k ≡ some t
-  unfolding entry
-  of-leads l =
-      let e : byte T s k ≡ t = sym (packed s k state column) ∙ l .byte in
-      of-byte (eqb (byte T s k) 255) refl (omega (arith, e, l .state)) ∙ ap some e
-
-  some-byte : (b : Bool) → cond {A = Option ℕ} b none (some (byte T s k)) ≡ some t → byte T s k ≡ t
-  some-byte true e = absurd (let z : _≡_ {A = ℕ} 0 1 = cc in omega arith)
-  some-byte false e = cc
-
-  pub leads : entry T s k ≡ some t → Leads rows (width T) k s t
-  unfolding entry
-  leads e =
-      record {
-        byte = packed s k state column ∙ some-byte (eqb (byte T s k) 255) e;
-        state = omega (arith, valid .entries s k t state column e, valid .states);
-      }
 
 -- THE BRIDGE
 

@@ -1,17 +1,13 @@
 pub mod Laws
+pub mod Entries
 mod Bridge
 mod Moves
 mod Words
 mod Steps
-mod Padded
+pub mod Padded
 mod Clauses
 mod Lines
-mod Closed
 mod Feeding
-mod Openings
+pub mod Openings
 mod Opened
 mod Sessions
-mod Sums
-mod Running
-mod Traces
-mod Whole

@@ -16,7 +16,8 @@ use Rattle.states.specs.In.{In, Has}
 use Rattle.states.specs.Rows.{Leads}
 use Rattle.monitor.specs.Sets.{InCell, Holds, SweptFrom, Shifted, Followed, SentOn, Packed, Ready, Contained}
 use Rattle.states.proofs.Member.{not-in-zero}
-use Rattle.monitor.proofs.Bridge.{same-word, of-leads, leads, contained-after, words-swept}
+use Rattle.monitor.proofs.Bridge.{same-word, contained-after, words-swept}
+use Rattle.monitor.proofs.Entries.{of-leads, leads}
 
 -- SWEPT SETS, READ ANOTHER WAY
 

@@ -22,7 +22,6 @@ use Rattle.monitor.specs.declared.session.Flag.the-variants as flag
 use Rattle.monitor.specs.Session.{used, table-in, kept, line, ZeroFrom, Sound}
 use Rattle.monitor.specs.Open.{zeros, padded, opening, begun, zero-session}
 use Rattle.monitor.specs.Laws.{Proper, OpenedSound, ZerosUnsound}
-use Rattle.monitor.specs.Run.{session-of}
 use Rattle.monitor.proofs.Padded.{length-zeros, zeros-at}
 use Rattle.monitor.proofs.Openings.{opening-passes}
 
@@ -86,9 +85,26 @@ first-holds x = (to, from)
     from : x ≡ cfg 0 0 0 → Holds first-set x
     from e = rw e zero-held
 
+-- a session of these rows, before any event
+abbrev pub first-session : List ℕ → ℕ → ℕ → ℕ → ℕ → ℕ → Session
+first-session rows s i o B c =
+    record {
+      states = s;
+      inputs = i;
+      outputs = o;
+      rows = rows;
+      waiting = B;
+      losses = c;
+      set = first-set;
+      held = zeros 32;
+      events = 0;
+      arrived = 0;
+      flag = flag.None;
+    }
+
 -- A session at its beginning is sound, wherever its rows stand: with zeros after them, or alone.
 module _ (rows rows′ : List ℕ) (s i o B c : ℕ) (passes : opening rows s i o B c ≡ Passed) (packed : take (s * (i + o)) rows′ ≡ rows) (rest : ZeroFrom (s * (i + o)) rows′) where
-  pub first-sound : Sound (session-of rows′ s i o B c first-set (zeros 32) 0 0 flag.None)
+  pub first-sound : Sound (first-session rows′ s i o B c)
   first-sound =
       let (valid, bounded) = opening-passes rows s i o B c .0 passes in
       record {
@@ -102,19 +118,13 @@ module _ (rows rows′ : List ℕ) (s i o B c : ℕ) (passes : opening rows s i 
       }
 
 -- its words
-pub first-proper : (rows′ : List ℕ) (s i o B c : ℕ) → Proper (session-of rows′ s i o B c first-set (zeros 32) 0 0 flag.None)
+pub first-proper : (rows′ : List ℕ) (s i o B c : ℕ) → Proper (first-session rows′ s i o B c)
 first-proper rows′ s i o B c = record { set = length-set (zeros 264) 0 1 ∙ length-zeros 264; held = length-zeros 32 }
 
 -- rows that pass, alone and with zeros after them
 module _ (rows : List ℕ) (s i o B c : ℕ) (passes : opening rows s i o B c ≡ Passed) where
   valid : Valid (table-of rows s i o)
   valid = opening-passes rows s i o B c .0 passes .0
-
-  pub lent-rows : take (s * (i + o)) rows ≡ rows
-  lent-rows = rw (← (valid .rows)) (take-length rows)
-
-  pub lent-rest : ZeroFrom (s * (i + o)) rows
-  lent-rest k l m = absurd (omega (arith, valid .rows))
 
   fits : length rows ≤ 2048
   fits = omega (arith, valid .rows, mul-le-mul {n₂ = 64} {m₂ = 32} (valid .states .1) (let w : i + o ≤ 32 = omega (arith, valid .inputs .1, valid .outputs .1) in w))

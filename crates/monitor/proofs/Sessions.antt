@@ -29,12 +29,11 @@ use Rattle.monitor.specs.declared.feed.Fed as declared
 use Rattle.monitor.specs.Sets.{Holds}
 use Rattle.monitor.specs.Session.{used, table-in, kept, line, ZeroFrom, TableSound, HeldSound, FlagFits, Sound}
 use Rattle.monitor.specs.Open.{zeros, padded, opening, begun}
-use Rattle.monitor.specs.Run.{session-of}
 use Rattle.monitor.specs.Feed.{Shows, FlagAfter, stays, clear, falls, FedTo, passed, ValidEvent, Feeds, unsound, full, invalid, fed}
 use Rattle.monitor.specs.Laws.{Proper, OneFeed, NotRefused, FedSound, place-of, Follows, FedAll, none-left, then, PlausibleAfterFeeding, KeptBy, SessionsAllowMore}
 use Rattle.monitor.proofs.Lines.{shows-one, shown-take}
 use Rattle.monitor.proofs.Feeding.{length-line, line-valid, fit, valid-more, event-cases}
-use Rattle.monitor.proofs.Opened.{first-set, first-holds, first-sound, first-proper, begun-rows, begun-rest}
+use Rattle.monitor.proofs.Opened.{first-set, first-session, first-holds, first-sound, first-proper, begun-rows, begun-rest}
 
 clash : _≡_ {A = ℕ} 0 1 → ⊥
 clash z = omega arith
@@ -211,7 +210,7 @@ fed-sound s t b p k = let w = went s b (passed t) t refl k in (went-sound s t b 
 
 -- before any event
 pub first-follows : (rows rows′ : List ℕ) (s i o B c : ℕ) → opening rows s i o B c ≡ Passed → take (s * (i + o)) rows′ ≡ rows → ZeroFrom (s * (i + o)) rows′
-    → Follows (table-of rows s i o) B c [] (session-of rows′ s i o B c first-set (zeros 32) 0 0 flag.None)
+    → Follows (table-of rows s i o) B c [] (first-session rows′ s i o B c)
 first-follows rows rows′ s i o B c e packed rest =
     let open′ = opens (box (table-of rows s i o)) B c in
     let z : min B 0 ≡ 0 = omega arith in

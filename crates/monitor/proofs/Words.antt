@@ -13,29 +13,6 @@ use Rattle.states.proofs.Member.{in-or, in-or-with}
 use Rattle.states.proofs.Words.{Filled, filled-none, filled-more}
 use Rattle.monitor.specs.Sets.{Raised, Shifted, Stored, LoweredTo}
 
--- n words from base on are what f says, and the others as they were
-pub record Written (base n : ℕ) (f : ℕ → ℕ) (before after : List ℕ) : Type 0 where
-  pub size : length after ≡ length before
-  pub words : (k : ℕ) → k < n → getD after (base + k) 0 ≡ f k
-  pub below : (k : ℕ) → k < base → getD after k 0 ≡ getD before k 0
-  pub above : (k : ℕ) → base + n ≤ k → getD after k 0 ≡ getD before k 0
-
-pub written-none : (base : ℕ) (f : ℕ → ℕ) (l : List ℕ) → Written base 0 f l l
-written-none base f l = record { size = refl; words = λ k i. absurd (omega arith); below = λ k i. refl; above = λ k i. refl }
-
-pub written-more : (base n : ℕ) (f : ℕ → ℕ) (before after : List ℕ) (i v : ℕ) → i ≡ base + n → i < length after → v ≡ f n → Written base n f before after
-    → Written base (n + 1) f before (set after i v)
-written-more base n f before after i v at fits e w =
-    record {
-      size = length-set after i v ∙ w .size;
-      words = λ k l. elim (ℕ-discrete k n) [
-        | yes d ↦ let o : base + k ≡ i = omega arith in rw (o, d) (getD-set-same after i v 0 fits ∙ e)
-        | no d ↦ let q : k ≢ n = d in let o : base + k ≢ i = λ p. omega arith in getD-set-other after i (base + k) v 0 o ∙ w .words k (omega arith)
-      ];
-      below = λ k l. let o : k ≢ i = λ q. omega arith in getD-set-other after i k v 0 o ∙ w .below k l;
-      above = λ k l. let o : k ≢ i = λ q. omega arith in getD-set-other after i k v 0 o ∙ w .above k (omega arith);
-    }
-
 pub raised-none : (n : ℕ) (l : List ℕ) → Raised (8 * n) n l l
 raised-none n l = record { size = refl; moved = λ i j k. absurd (omega arith); below = λ i j. refl; above = λ i j. refl }
 

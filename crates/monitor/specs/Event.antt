@@ -1,11 +1,10 @@
 -- What one event does to a set and its line, as the code does it. Assumes nothing.
 use mathlib.Core.Path.{_≡_}
 use mathlib.Core.List.{List}
-use Prim.Native.Nat.{ℕ, suc, _+_, min}
+use Prim.Native.Nat.{ℕ, _+_, min}
 use lib.ListN.{length, take}
 use Rattle.monitor.specs.Sets.{SweptFrom, Shifted, SentOn}
 use Rattle.monitor.specs.Feed.{Held}
-use Rattle.monitor.specs.Notes.{Noted}
 
 -- Input a comes to a line of n, of at most `most`: it has top then. The levels go up, and are swept.
 pub record Arrival (rows : List ℕ) (width most c n a top : ℕ) (set held set′ held′ : List ℕ) : Type 0 where
@@ -24,12 +23,3 @@ pub record Departure (rows : List ℕ) (width column c n : ℕ) (set held set′
   pub followed : List ℕ
   pub sent : SentOn rows width column n set followed
   pub swept : SweptFrom rows width c (take n held) 0 n followed set′
-
--- The same of a closed set, of which every level is noted.
-pub record ArrivalNoted (rows : List ℕ) (width most c n a top : ℕ) (set held set′ held′ notes′ : List ℕ) : Type 0 where
-  pub arrival : Arrival rows width most c n a top set held set′ held′
-  pub noted : Noted set′ notes′ (suc top)
-
-pub record DepartureNoted (rows : List ℕ) (width column c n : ℕ) (set held set′ notes′ : List ℕ) : Type 0 where
-  pub departure : Departure rows width column c n set held set′
-  pub noted : Noted set′ notes′ (suc n)

@@ -1,10 +1,6 @@
 pub mod Sets
-pub mod Notes
 pub mod Session
 pub mod Open
 pub mod Feed
 pub mod Event
 pub mod Laws
-pub mod Run
-pub mod Summary
-pub mod RunLaws

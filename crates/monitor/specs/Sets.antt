@@ -74,11 +74,6 @@ pub record SweptFrom (rows : List ℕ) (width c : ℕ) (h : List ℕ) (w top : �
   pub taken : (v s : ℕ) → w ≤ v → v < top → InCell after v 0 s ↔ (InCell before v 0 s ⊎ Took rows width (oldest (suc v) h) after (suc v) s)
   pub lost : (v r s : ℕ) → w ≤ v → v < top → suc r < 8 → InCell after v (suc r) s ↔ (InCell before v (suc r) s ⊎ ((suc r < c) × InCell after (suc v) r s))
 
--- A set that takes and losses lead out of no more, with the inputs h as the line, of which top wait at most.
-pub record ClosedUnder (rows : List ℕ) (width c : ℕ) (h : List ℕ) (top : ℕ) (set : List ℕ) : Type 0 where
-  pub taken : (v s : ℕ) → v < top → Took rows width (oldest (suc v) h) set (suc v) s → InCell set v 0 s
-  pub lost : (v r s : ℕ) → v < top → suc r < 8 → suc r < c → InCell set (suc v) r s → InCell set v (suc r) s
-
 -- THE EVENT
 
 -- The words from k to below 8 n have gone up by one level, and those below the level they went to are as they were.
@@ -93,10 +88,6 @@ pub record Shifted (n : ℕ) (before after : List ℕ) : Type 0 where
   pub first : (k : ℕ) → k < 8 → getD after k 0 ≡ 0
   pub moved : (k : ℕ) → k < 8 * n → getD after (8 + k) 0 ≡ getD before k 0
   pub above : (k : ℕ) → 8 * n + 8 ≤ k → getD after k 0 ≡ getD before k 0
-
--- The n levels below have gone up by one, whatever became of the first.
-pub record Carried (n : ℕ) (before after : List ℕ) : Type 0 where
-  pub moved : (k : ℕ) → k < 8 * n → getD after (8 + k) 0 ≡ getD before k 0
 
 -- An output is seen: state s of the level of w waiting follows the column to t; in one level; and in all up to n.
 pub record Followed (rows : List ℕ) (width column s t : ℕ) (before : List ℕ) (w r : ℕ) : Type 0 where

@@ -1,12 +1,9 @@
 // What one event does to a set and its line, in place: the event first, and then any number of takes and losses.
 ghost use mathlib.Core.Path.{_≡_};
-ghost use Prim.Native.Nat.{ℕ, suc, _+_, _≤_, _<_, min};
+ghost use Prim.Native.Nat.{ℕ, _+_, _≤_, _<_, min};
 ghost use lib.ListN.{length, take};
-ghost use Rattle.monitor.specs.Feed.{Forgot, Held, Shows};
-ghost use Rattle.monitor.specs.Sets.{ClosedUnder, Carried};
-ghost use Rattle.monitor.specs.Notes.{Noted};
-ghost use Rattle.monitor.specs.Event.{Arrival, Departure, ArrivalNoted, DepartureNoted};
-use crate::notes;
+ghost use Rattle.monitor.specs.Feed.{Forgot, Held};
+ghost use Rattle.monitor.specs.Event.{Arrival, Departure};
 use crate::sweep;
 
 // The bytes go down by one place, up to the last.
@@ -64,29 +61,6 @@ pub(crate) fn arrived(
     top
 }
 
-// The same where the set is closed under takes and losses: only the newest input can be newly taken or lost.
-fn arrived_closed(
-    set: &mut [u64; 264],
-    held: &mut [u8; 32],
-    rows: &[u8],
-    width: u8,
-    most: usize,
-    c: usize,
-    n: usize,
-    a: u8,
-) -> usize
-    requires { ⌜ (n ≤ most) × (0 < most) × (most ≤ 32) × (length (now set) ≡ 264) × (length (now held) ≡ 32) ⌝ }
-    requires { ⌜ Shows (take n (now held)) (now held) × ClosedUnder (now rows) width c (take n (now held)) n (now set) ⌝ }
-    ensures { λ top. ⌜ Arrival (now (rows .entry)) width most c n a top (now (set .entry)) (now (held .entry)) (now (set .exit)) (now (held .exit)) ⌝ }
-    ensures { λ top. ⌜ Carried top (now (set .entry)) (now (set .exit)) ⌝ }
-{
-    hold(&mut *held, n, most, a);
-    let top = grown(n, most);
-    sweep::shift(&mut *set, top);
-    sweep::lower(&mut *set, rows, width, 0, a, c);
-    top
-}
-
 // An output is seen, which stands in this column. The line has the n newest inputs.
 pub(crate) fn sent<'a>(
     set: &mut [u64; 264],
@@ -102,43 +76,4 @@ pub(crate) fn sent<'a>(
 {
     sweep::send(&mut *set, rows, width, column, n);
     sweep::sweep(&mut *set, rows, width, held, n, c);
-}
-
-// Input a comes to a closed set whose levels are noted.
-pub(crate) fn arrived_noted(
-    set: &mut [u64; 264],
-    held: &mut [u8; 32],
-    notes: &mut [u64; 66],
-    rows: &[u8],
-    width: u8,
-    most: usize,
-    c: usize,
-    n: usize,
-    a: u8,
-) -> usize
-    requires { ⌜ (n ≤ most) × (0 < most) × (most ≤ 32) × (length (now set) ≡ 264) × (length (now held) ≡ 32) ⌝ }
-    requires { ⌜ Shows (take n (now held)) (now held) × ClosedUnder (now rows) width c (take n (now held)) n (now set) × Noted (now set) (now notes) (suc n) ⌝ }
-    ensures { λ top. ⌜ ArrivalNoted (now (rows .entry)) width most c n a top (now (set .entry)) (now (held .entry)) (now (set .exit)) (now (held .exit)) (now (notes .exit)) ⌝ }
-{
-    let top = arrived_closed(&mut *set, &mut *held, rows, width, most, c, n, a);
-    notes::shift(&*set, &mut *notes);
-    top
-}
-
-// An output is seen of a set whose levels are noted.
-pub(crate) fn sent_noted<'a>(
-    set: &mut [u64; 264],
-    held: &'a [u8; 32],
-    notes: &mut [u64; 66],
-    rows: &'a [u8],
-    width: u8,
-    column: u8,
-    c: usize,
-    n: usize,
-)
-    requires { ⌜ (n ≤ 32) × (length (now set) ≡ 264) × (length (now held) ≡ 32) × (length (now notes) ≡ 66) ⌝ }
-    ensures { λ _. ⌜ DepartureNoted (now (rows .entry)) width column c n (now (set .entry)) (now (held .entry)) (now (set .exit)) (now (notes .exit)) ⌝ }
-{
-    sent(&mut *set, held, rows, width, column, c, n);
-    notes::note_all(&*set, &mut *notes, n + 1);
 }

@@ -1,10 +1,11 @@
 -- Every statement of specs/Laws.antt, proved, under one roof: other crates take the laws from here. Assumes nothing.
 use mathlib.Core.Path.{refl}
 use Rattle.table.specs.Refusals.{told}
-use Rattle.table.specs.Laws.{FoundNone, FoundFirst, CountsPass, LengthPasses, EntriesPass, FirstTold, TablePasses, BoundsPass, SymbolMeans, GivenMeans, NextMeans, EventTold}
+use Rattle.table.specs.Laws.{FoundNone, FoundFirst, CountsPass, LengthPasses, EntriesPass, FirstTold, TablePasses, BoundsPass, EventsPass, FirstInvalid, SymbolMeans, GivenMeans, NextMeans, EventTold}
 use Rattle.table.proofs.First
 use Rattle.table.proofs.Passing
 use Rattle.table.proofs.Rows
+use Rattle.table.proofs.Traces
 use Rattle.table.proofs.Symbols
 use Rattle.table.proofs.Bytes
 
@@ -48,6 +49,12 @@ table-passes T = (
 
 pub bounds-pass : BoundsPass
 bounds-pass = Passing.bounds-pass
+
+pub events-pass : EventsPass
+events-pass = Traces.events-pass
+
+pub first-invalid : FirstInvalid
+first-invalid = Traces.first-invalid
 
 -- The bytes.
 pub symbol-means : SymbolMeans

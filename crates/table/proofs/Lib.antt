@@ -6,3 +6,4 @@ mod Symbols
 mod Reading
 mod Rows
 mod Passing
+mod Traces

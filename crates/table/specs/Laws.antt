@@ -2,6 +2,7 @@
 -- proofs/Laws.antt proves them all. Assumes nothing.
 use mathlib.Core.Path.{_≡_}
 use mathlib.Core.Bool.{Bool, true, false}
+use mathlib.Core.List.{List}
 use mathlib.Core.Logic.{_↔_, _⊎_}
 use mathlib.Core.Option.{some, none}
 use Prim.Native.Nat.{ℕ, _+_, _*_, _≤_, _<_}
@@ -11,7 +12,7 @@ use Rattle.model.specs.Table.{Table, width, entry, Valid, Bounded}
 use Rattle.model.specs.Model.{event, input, output}
 use Rattle.table.specs.Bytes.{symbol-of, next-of}
 use Rattle.table.specs.First.{first}
-use Rattle.table.specs.Tests.{counts-test, length-test, entries-test, bounds-test}
+use Rattle.table.specs.Tests.{counts-test, length-test, entries-test, bounds-test, invalid-at, events-test}
 use Rattle.table.specs.declared.answer.Symbol.{Symbol}
 use Rattle.table.specs.declared.answer.Symbol.the-variants.{Input, Output, Invalid}
 use Rattle.table.specs.declared.answer.Next.the-variants.{State, Nowhere}
@@ -76,6 +77,18 @@ TablePasses =
 -- 5 and 6 are given exactly when a bound is not within its limit.
 abbrev pub BoundsPass : Type 0
 BoundsPass = (B c : ℕ) → bounds-test B c ≡ Passed ↔ Bounded B c
+
+-- 7 is given exactly when an event byte is not valid.
+abbrev pub EventsPass : Type 0
+EventsPass =
+    (trace : List ℕ) (i o : ℕ) → events-test trace i o ≡ Passed ↔ ((k : ℕ) → k < length trace → invalid-at trace i o k ≡ false)
+
+-- With 7 is told the first that is not valid.
+abbrev pub FirstInvalid : Type 0
+FirstInvalid =
+    (trace : List ℕ) (i o k : ℕ)
+    → events-test trace i o ≡ Refused (Event k)
+    ↔ ((k < length trace) × (invalid-at trace i o k ≡ true) × ((j : ℕ) → j < k → invalid-at trace i o j ≡ false))
 
 -- THE BYTES
 

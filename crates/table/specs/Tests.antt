@@ -1,14 +1,18 @@
--- Document 01, "Numbers for what is turned away": the tests of a table and its bounds, numbers 1 to 6. Assumes nothing.
+-- Document 01, "Numbers for what is turned away": the tests of a table, its bounds and a trace, numbers 1 to 7. Assumes nothing.
 use mathlib.Core.Bool.{Bool, true, false, _&&_}
+use mathlib.Core.List.{List}
 use mathlib.Core.Option.{Option, some, none}
 use Prim.Native.Nat.{ℕ, _+_, _*_, _/_, _%_}
 use lib.Dec.{eqb, leb}
+use lib.ListN.{length, getD}
 use Rattle.model.specs.Limits.{most-states, most-inputs, most-outputs, most-waiting, most-losses}
 use Rattle.model.specs.Table.{Table, width, entry}
-use Rattle.table.specs.Bytes.{said, leads-out}
+use Rattle.table.specs.Bytes.{said, leads-out, symbol-of}
 use Rattle.table.specs.First.{first}
 use Rattle.table.specs.declared.answer.Refusal.{Refusal}
-use Rattle.table.specs.declared.answer.Refusal.the-variants.{Rows, States, Symbols, Entry, Waiting, Losses}
+use Rattle.table.specs.declared.answer.Refusal.the-variants.{Rows, States, Symbols, Entry, Waiting, Losses, Event}
+use Rattle.table.specs.declared.answer.Symbol.{Symbol}
+use Rattle.table.specs.declared.answer.Symbol.the-variants.{Input, Output, Invalid}
 use Rattle.table.specs.declared.answer.Test.{Test}
 use Rattle.table.specs.declared.answer.Test.the-variants.{Passed, Refused}
 
@@ -28,7 +32,7 @@ counts-test s i o =
 
 -- 1: rows are not states × (inputs + outputs) bytes.
 unfoldable pub length-test : ℕ → ℕ → ℕ → ℕ → Test
-length-test length s i o = must (eqb length (s * (i + o))) (Rows length) Passed
+length-test n s i o = must (eqb n (s * (i + o))) (Rows n) Passed
 
 -- Reading row by row, entry k stands in this row and column.
 abbrev pub row : Table → ℕ → ℕ
@@ -52,3 +56,19 @@ entries-test T = unless-bad T (first (bad T) (T .states * width T))
 -- 5: B not 1..32. 6: c not 1..8.
 unfoldable pub bounds-test : ℕ → ℕ → Test
 bounds-test B c = must (up-to most-waiting B) (Waiting B) (must (up-to most-losses c) (Losses c) Passed)
+
+-- 7: an event byte is not valid; the index of the first.
+abbrev pub is-invalid : Symbol → Bool
+is-invalid (Input a) = false
+is-invalid (Output a) = false
+is-invalid Invalid = true
+
+abbrev pub invalid-at : List ℕ → ℕ → ℕ → ℕ → Bool
+invalid-at trace inputs outputs k = is-invalid (symbol-of (getD trace k 0) inputs outputs)
+
+abbrev pub unless-invalid : Option ℕ → Test
+unless-invalid none = Passed
+unless-invalid (some k) = Refused (Event k)
+
+unfoldable pub events-test : List ℕ → ℕ → ℕ → Test
+events-test trace inputs outputs = unless-invalid (first (invalid-at trace inputs outputs) (length trace))

@@ -2,7 +2,7 @@
 // No function asks anything of its caller: each answers every input, by an equation of specs/.
 ghost use mathlib.Core.Path.{_≡_};
 ghost use Rattle.table.specs.Bytes.{table-of};
-ghost use Rattle.table.specs.Tests.{up-to, counts-test, length-test, entries-test, bounds-test};
+ghost use Rattle.table.specs.Tests.{up-to, counts-test, length-test, entries-test, bounds-test, is-invalid, events-test};
 
 pub mod answer;
 mod byte;
@@ -87,6 +87,30 @@ pub fn bounds(waiting: usize, losses: usize) -> Test
     }
     if !within(losses, MOST_LOSSES) {
         return Test::Refused(Refusal::Losses(losses));
+    }
+    Test::Passed
+}
+
+fn invalid(s: Symbol) -> bool
+    ensures { λ r. ⌜ r ≡ is-invalid s ⌝ }
+{
+    match s {
+        Symbol::Input(_) => false,
+        Symbol::Output(_) => false,
+        Symbol::Invalid => true,
+    }
+}
+
+// Number 7: the first event of a trace that is not valid.
+pub fn events(trace: &[u8], inputs: u8, outputs: u8) -> Test
+    ensures { λ r. ⌜ r ≡ events-test (now (trace .entry)) inputs outputs ⌝ }
+{
+    let mut k: usize = 0;
+    while k < trace.len() {
+        if invalid(event(trace[k], inputs, outputs)) {
+            return Test::Refused(Refusal::Event(k));
+        }
+        k += 1;
     }
     Test::Passed
 }

@@ -1,4 +1,4 @@
--- `file::valid` meets its contract: the monitor's test of events tells the first that is not valid. Assumes nothing.
+-- `file::valid` meets its contract: the test of events tells the first that is not valid. Assumes nothing.
 use borrow.Author.Needs.{needs}
 use Rattle.house.proofs.Events.{valid-told}
 use Rattle.house.proofs.file.valid.Statement.{statement}

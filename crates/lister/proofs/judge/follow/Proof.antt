@@ -6,7 +6,7 @@ use Rattle.lister.proofs.judge.follow.Tie as tie
 use Rattle.lister.proofs.judge.follow.Reads as reads
 use Rattle.lister.proofs.judge.follow.Lts as lts
 use Rattle.lister.proofs.judge.front.Reads as front-reads
-use Rattle.monitor.proofs.run.run.Reads as run-reads
+use Rattle.run.proofs.run.Reads as run-reads
 
 -- src/judge.rt:53:9
 cast-run : tie.Need-cast-run

@@ -1,4 +1,4 @@
-use Rattle.monitor.proofs.Words.{Written, written-none, written-more}
+use Rattle.states.proofs.Words.{Written, written-none, written-more}
 use lib.ListN.{length, getD, take}
 use Prim.Native.Nat.{ℕ, _+_, _-_, _*_, _≤_, _<_}
 use mathlib.Core.Path.{_≡_, refl, sym, _∙_, ap}

@@ -1,5 +1,5 @@
 use mathlib.Core.Path.{refl}
-use Rattle.monitor.proofs.Words.{Written, written-none, written-more}
+use Rattle.states.proofs.Words.{Written, written-none, written-more}
 use lib.ListN.{getD}
 use Prim.Native.Nat.{ℕ, _-_, _+_, _*_, _≤_}
 use mathlib.Core.Path.{_≡_}

@@ -1,0 +1,121 @@
+-- The plausible set of a run, kept by lag: waiting + run, the inputs that came after the one last taken. Assumes nothing.
+use mathlib.Core.Path.{_≡_}
+use mathlib.Core.List.{List, [], _∷_, _++_}
+use mathlib.Core.Logic.{_↔_, _⊎_}
+use Prim.Native.Nat.{ℕ, suc, _+_, _-_, _≤_, _<_, min}
+use lib.ListN.{length, getD}
+use Rattle.model.specs.Model.{Config}
+use Rattle.states.specs.In.{In, Least, Most}
+use Rattle.states.specs.Rows.{Leads, Image}
+use Rattle.run.specs.declared.lag.Tally.{Tally}
+use Rattle.run.specs.Run.{number}
+
+-- THE SET
+
+-- The words from base on, one a lag, stand for the configurations of which at most n wait, fewer than c are lost, and the state is in the
+-- word of their lag.
+pub record Lagged (words : List ℕ) (base n c : ℕ) (x : Config ℕ) : Type 0 where
+  pub room : x .waiting ≤ n
+  pub few : x .run < c
+  pub member : In (x .state) (getD words (base + (x .waiting + x .run)) 0)
+
+-- State s is in one of the c words from a place on.
+pub record Within (words : List ℕ) (at c s : ℕ) : Type 0 where
+  pub lost : ℕ
+  pub few : lost < c
+  pub member : In s (getD words (at + lost) 0)
+
+-- The column leads to state t from one of them.
+pub record Drawn (rows : List ℕ) (width column c : ℕ) (words : List ℕ) (at t : ℕ) : Type 0 where
+  pub from : ℕ
+  pub source : Within words at c from
+  pub leads : Leads rows width column from t
+
+-- AN INPUT
+
+-- The first 40 of a list stand also from 64 on.
+pub record Copied (before after : List ℕ) : Type 0 where
+  pub size : length after ≡ length before
+  pub moved : (j : ℕ) → j < 40 → getD after (64 + j) 0 ≡ getD before j 0
+  pub below : (j : ℕ) → j < 64 → getD after j 0 ≡ getD before j 0
+
+-- The 40 places from the base on have what they had, and there is a place below it.
+pub record Based (base : ℕ) (words line : List ℕ) (base′ : ℕ) (words′ line′ : List ℕ) : Type 0 where
+  pub above : 0 < base′
+  pub low : base′ ≤ 64
+  pub words-long : length words′ ≡ 104
+  pub line-long : length line′ ≡ 104
+  pub words-same : (j : ℕ) → j < 40 → getD words′ (base′ + j) 0 ≡ getD words (base + j) 0
+  pub line-same : (j : ℕ) → j < 40 → getD line′ (base′ + j) 0 ≡ getD line (base + j) 0
+
+-- Input a comes: every lag is one more, and at lag 0 is what takes it.
+pub record Came (rows : List ℕ) (width c a base : ℕ) (words line : List ℕ) (base′ : ℕ) (words′ line′ : List ℕ) : Type 0 where
+  pub low : base′ < 64
+  pub words-long : length words′ ≡ 104
+  pub line-long : length line′ ≡ 104
+  pub moved : (j : ℕ) → j < 40 → getD words′ (base′ + suc j) 0 ≡ getD words (base + j) 0
+  pub taken : (t : ℕ) → In t (getD words′ base′ 0) ↔ Drawn rows width a c words′ (suc base′) t
+  pub head : getD line′ base′ 0 ≡ a
+  pub older : (w : ℕ) → w < 40 → getD line′ (base′ + suc w) 0 ≡ getD line (base + w) 0
+
+-- AN OUTPUT
+
+-- At the lags from k to below m every state follows the column; the other words are as they were.
+pub record FollowedFrom (rows : List ℕ) (width column base m k : ℕ) (before after : List ℕ) : Type 0 where
+  pub size : length after ≡ length before
+  pub sent : (j t : ℕ) → k ≤ j → j < m → In t (getD after (base + j) 0) ↔ Image rows width column (getD before (base + j) 0) t
+  pub below : (i : ℕ) → i < base + k → getD after i 0 ≡ getD before i 0
+  pub above : (i : ℕ) → base + m ≤ i → getD after i 0 ≡ getD before i 0
+
+-- At the lags from k to below n also stands where the head of a line of one more leads when it is taken.
+pub record DrawnFrom (rows : List ℕ) (width c : ℕ) (line : List ℕ) (base n k : ℕ) (before after : List ℕ) : Type 0 where
+  pub size : length after ≡ length before
+  pub taken : (w t : ℕ) → k ≤ w → w < n
+      → In t (getD after (base + w) 0) ↔ (In t (getD before (base + w) 0) ⊎ Drawn rows width (getD line (base + w) 0) c after (base + w + 1) t)
+  pub below : (i : ℕ) → i < base + k → getD after i 0 ≡ getD before i 0
+  pub above : (i : ℕ) → base + n ≤ i → getD after i 0 ≡ getD before i 0
+
+-- An output is seen: the states follow its column, and then any number of inputs is taken.
+pub record Went (rows : List ℕ) (width column c : ℕ) (line : List ℕ) (base n : ℕ) (before after : List ℕ) : Type 0 where
+  pub between : List ℕ
+  pub followed : FollowedFrom rows width column base (n + c) 0 before between
+  pub drawn : DrawnFrom rows width c line base n 0 between after
+
+-- THE TALLY
+
+-- t is the tally s with the word x at lag j.
+pub record Counted (s : Tally) (x j : ℕ) (t : Tally) : Type 0 where
+  pub states : (q : ℕ) → In q (t .states) ↔ (In q (s .states) ⊎ In q x)
+  pub lags : (v : ℕ) → In v (t .lags) ↔ (In v (s .lags) ⊎ ((q : ℕ) × In q x × (j ≡ v)))
+
+-- t has the states at the m first lags, and those lags that have any.
+pub record Tallied (words : List ℕ) (base m : ℕ) (t : Tally) : Type 0 where
+  pub states : (q : ℕ) → In q (t .states) ↔ ((j : ℕ) × (j < m) × In q (getD words (base + j) 0))
+  pub lags : (j : ℕ) → In j (t .lags) ↔ ((j < m) × (q : ℕ) × In q (getD words (base + j) 0))
+
+-- THE LINE
+
+-- r is x less k, not below 0; it is x, not above k. 255 stands for none, and stays.
+pub record Back (x k r : ℕ) : Type 0 where
+  pub none : x ≡ 255 → r ≡ 255
+  pub some : (x ≡ 255 → ⊥) → r ≡ x - k
+
+pub record Capped (x k r : ℕ) : Type 0 where
+  pub none : x ≡ 255 → r ≡ 255
+  pub some : (x ≡ 255 → ⊥) → r ≡ min x k
+
+-- The line of a tally.
+pub record LineOf (t : Tally) (n c : ℕ) (line : List ℕ) : Type 0 where
+  pub low : ℕ
+  pub high : ℕ
+  pub least-waiting : ℕ
+  pub most-waiting : ℕ
+  pub least-run : ℕ
+  pub most-run : ℕ
+  pub low-is : Least (t .lags) low
+  pub high-is : Most (t .lags) high
+  pub least-waiting-is : Back low (c - 1) least-waiting
+  pub most-waiting-is : Capped high n most-waiting
+  pub least-run-is : Back low n least-run
+  pub most-run-is : Capped high (c - 1) most-run
+  pub bytes-are : line ≡ number (t .states) ++ (least-waiting ∷ most-waiting ∷ least-run ∷ most-run ∷ [])

@@ -1,0 +1,4 @@
+pub mod Run
+pub mod Lag
+pub mod Trace
+pub mod Laws

@@ -1,0 +1,136 @@
+// A trace, event by event: the set and the line after each, its twelve bytes, and the flag.
+ghost use mathlib.Core.Path.{_≡_};
+ghost use Prim.Native.Nat.{ℕ, _+_, _*_, _≤_, _<_, min};
+ghost use lib.ListN.{length, getD};
+ghost use Rattle.model.specs.Limits.{most-events};
+ghost use Rattle.table.specs.Bytes.{symbol-of};
+ghost use Rattle.table.specs.declared.answer.Symbol.the-variants.{Invalid};
+ghost use Rattle.run.specs.Run.{Followed};
+ghost use Rattle.run.specs.Trace.{flag-by, Stepped, Recorded};
+use crate::lag;
+use crate::line;
+use monitor::session::Flag;
+use table::Symbol;
+
+// Where a run stands: where the window of its words and inputs begins, and how many inputs the line has.
+pub(crate) struct Place {
+    pub base: usize,
+    pub count: usize,
+}
+
+// How many inputs a line has after one more, of at most `most`.
+fn grown(n: usize, most: usize) -> usize
+    requires { ⌜ (n ≤ most) × (most ≤ 32) ⌝ }
+    ensures { λ r. ⌜ r ≡ min (n + 1) most ⌝ }
+{
+    if n < most { n + 1 } else { most }
+}
+
+// One valid event more.
+fn step(
+    words: &mut [u64; 104],
+    line: &mut [u8; 104],
+    at: Place,
+    rows: &[u8],
+    inputs: u8,
+    outputs: u8,
+    most: usize,
+    c: usize,
+    byte: u8,
+) -> Place
+    requires { ⌜ (at .base ≤ 64) × (at .count ≤ most) × (most ≤ 32) × (c ≤ 8) × (inputs ≤ 16) × (outputs ≤ 16) × (length (now words) ≡ 104) × (length (now line) ≡ 104) ⌝ }
+    requires { ⌜ (symbol-of byte inputs outputs ≡ Invalid → ⊥) ⌝ }
+    ensures { λ r. ⌜ Stepped (now (rows .entry)) inputs outputs most c byte at (now (words .entry)) (now (line .entry)) r (now (words .exit)) (now (line .exit)) ⌝ }
+{
+    let symbol = table::event(byte, inputs, outputs);
+    match symbol {
+        Symbol::Input(a) => {
+            let base = lag::arrived(
+                &mut *words,
+                &mut *line,
+                at.base,
+                rows,
+                inputs + outputs,
+                c,
+                a,
+            );
+            Place {
+                base,
+                count: grown(at.count, most),
+            }
+        }
+        Symbol::Output(a) => {
+            lag::sent(
+                &mut *words,
+                &*line,
+                at.base,
+                at.count,
+                rows,
+                inputs + outputs,
+                inputs + a,
+                c,
+            );
+            at
+        }
+        Symbol::Invalid => at,
+    }
+}
+
+// A flag stays; where there was none and nothing was found, it falls at this event.
+fn flagged(flag: Flag, found: bool, event: usize) -> Flag
+    ensures { λ r. ⌜ r ≡ flag-by flag found event ⌝ }
+{
+    match flag {
+        Flag::At(place) => Flag::At(place),
+        Flag::None => { if found { Flag::None } else { Flag::At(event) } }
+    }
+}
+
+// The line of the set is written for event k, and the flag falls if nothing is plausible any more.
+fn recorded(words: &[u64; 104], at: Place, c: usize, out: &mut [u8], k: usize, flag: Flag) -> Flag
+    requires { ⌜ (at .base ≤ 64) × (at .count ≤ 32) × (0 < c) × (c ≤ 8) × (k < most-events) × (12 * k + 12 ≤ length (now out)) ⌝ }
+    ensures { λ g. ⌜ Recorded (now (words .entry)) at c k (now (out .entry)) (now (out .exit)) flag g ⌝ }
+{
+    let t = lag::tally_of(words, at.base, at.count + c);
+    let found = t.states != 0;
+    line::put(&mut *out, 12 * k, line::line(t, at.count as u8, c as u8));
+    flagged(flag, found, k)
+}
+
+// All events of a trace that passed its tests.
+pub(crate) fn followed<'a>(
+    rows: &'a [u8],
+    inputs: u8,
+    outputs: u8,
+    most: usize,
+    c: usize,
+    trace: &'a [u8],
+    out: &mut [u8],
+) -> Flag
+    requires { ⌜ (most ≤ 32) × (0 < c) × (c ≤ 8) × (inputs ≤ 16) × (outputs ≤ 16) × (length (now trace) ≤ most-events) × (12 * length (now trace) ≤ length (now out)) ⌝ }
+    requires { ⌜ ((k : ℕ) → k < length (now trace) → symbol-of (getD (now trace) k 0) inputs outputs ≡ Invalid → ⊥) ⌝ }
+    ensures { λ f. ⌜ Followed (now (rows .entry)) inputs outputs most c (now (trace .entry)) (now (out .entry)) (now (out .exit)) f ⌝ }
+{
+    let mut words = [0u64; 104];
+    words[64] = 1;
+    let mut line = [0u8; 104];
+    let mut at = Place { base: 64, count: 0 };
+    let mut flag = Flag::None;
+    let mut k: usize = 0;
+    while k < trace.len() {
+        at = step(
+            &mut words,
+            &mut line,
+            at,
+            rows,
+            inputs,
+            outputs,
+            most,
+            c,
+            trace[k],
+        );
+        flag = recorded(&words, at, c, &mut *out, k, flag);
+        k += 1;
+    }
+    flag
+}
