@@ -10,11 +10,10 @@ use lib.ListN.{length, getD, set, length-set}
 use lib.Seq.{getD-set-same, getD-set-other}
 use Rattle.states.specs.In.{In}
 use Rattle.states.specs.Rows.{Leads, Image}
-use Rattle.states.proofs.Member.{not-in-zero, in-or, in-or-with, in-one}
+use Rattle.states.proofs.Member.{not-in-zero, in-or}
 use Rattle.states.proofs.Words.{Written}
 use Rattle.states.proofs.Same.{some-in, zero-none}
-use Rattle.run.specs.declared.lag.Tally.{Tally}
-use Rattle.run.specs.Lag.{Within, Drawn, Copied, Based, Came, FollowedFrom, DrawnFrom, Counted, Tallied}
+use Rattle.run.specs.Lag.{Within, Drawn, Copied, Based, Came, FollowedFrom, DrawnFrom, HasLag, LeastLag, PastLags}
 
 -- equal words have the same states
 pub same-word : {x y : ℕ} (s : ℕ) → x ≡ y → In s x ↔ In s y
@@ -182,38 +181,54 @@ module _ (rows : List ℕ) (width c : ℕ) (line : List ℕ) (base n : ℕ) (bef
 
 -- THE TALLY
 
-pub lag-none : (m x j : ℕ) → x ≡ 0 → (v : ℕ) → In v m ↔ (In v m ⊎ ((q : ℕ) × In q x × (j ≡ v)))
-lag-none m x j z v = (inl, ⊎-elim (λ i. i) (λ (q, i, e). absurd (zero-none z q i)))
-
-pub lag-one : (m x j : ℕ) → j < 64 → (x ≡ 0 → ⊥) → (v : ℕ) → In v (bitOr m (1 * 2 ^ j % 2 ^ 64)) ↔ (In v m ⊎ ((q : ℕ) × In q x × (j ≡ v)))
-lag-one m x j l n = in-or-with (λ v. (q : ℕ) × In q x × (j ≡ v)) m (1 * 2 ^ j % 2 ^ 64) (λ v. (
-  (λ i. let (q, k) = some-in x n in (q, k, sym (in-one v j l .0 i))),
-  (λ (q, k, e). in-one v j l .1 (sym e)),
-))
-
 module _ (words : List ℕ) (base : ℕ) where
-  pub tallied-none : Tallied words base 0 (record { states = 0; lags = 0 })
-  tallied-none =
-      record {
-        states = λ q. ((λ i. absurd (not-in-zero q i)), (λ (j, l, m). absurd (omega arith)));
-        lags = λ j. ((λ i. absurd (not-in-zero j i)), (λ (l, q, m). absurd (omega arith)));
-      }
+  pub all-none : (s : ℕ) → In s 0 ↔ Within words base 0 s
+  all-none s = ((λ i. absurd (not-in-zero s i)), (λ w. absurd (omega (arith, w .few))))
 
-  pub tallied-more : (m : ℕ) (s t : Tally) → Tallied words base m s → Counted s (getD words (base + m) 0) m t → Tallied words base (m + 1) t
-  tallied-more m s t h a =
+  pub all-more : (j all : ℕ) → ((s : ℕ) → In s all ↔ Within words base j s) → (s : ℕ) → In s (bitOr all (getD words (base + j) 0)) ↔ Within words base (j + 1) s
+  all-more j all h s = ((λ i. ⊎-elim old new (in-or s all (getD words (base + j) 0) .0 i)), (λ w. in-or s all (getD words (base + j) 0) .1 (which w)))
+    where
+      old : In s all → Within words base (j + 1) s
+      old i = let w = h s .0 i in record { lost = w .lost; few = omega (arith, w .few); member = w .member }
+
+      new : In s (getD words (base + j) 0) → Within words base (j + 1) s
+      new i = record { lost = j; few = omega arith; member = i }
+
+      which : Within words base (j + 1) s → In s all ⊎ In s (getD words (base + j) 0)
+      which w =
+          elim (ℕ-discrete (w .lost) j) [
+            | yes e ↦ inr (rw e at (w .member))
+            | no n ↦ let o : w .lost ≢ j = n in inl (h s .1 (record { lost = w .lost; few = omega (arith, w .few); member = w .member }))
+          ]
+
+  -- no state at the lags below j; nor at those from j on
+  abbrev pub NoneBelow : ℕ → Type 0
+  NoneBelow j = (k : ℕ) → k < j → HasLag words base k → ⊥
+
+  pub none-more : (j : ℕ) → getD words (base + j) 0 ≡ 0 → NoneBelow j → NoneBelow (j + 1)
+  none-more j z h k l i =
+      elim (ℕ-discrete k j) [
+        | yes e ↦ zero-none z (i .0) (rw e at (i .1))
+        | no n ↦ let o : k ≢ j = n in h k (omega arith) i
+      ]
+
+  pub least-at : (m j : ℕ) → j ≤ m → NoneBelow j → (j < m → getD words (base + j) 0 ≡ 0 → ⊥) → LeastLag words base m j
+  least-at m j l h n = record { most = l; here = λ k. some-in (getD words (base + j) 0) (n k); none-below = h }
+
+  abbrev pub NoneFrom : ℕ → ℕ → Type 0
+  NoneFrom j m = (k : ℕ) → j ≤ k → k < m → HasLag words base k → ⊥
+
+  pub none-back : (j m : ℕ) → 0 < j → getD words (base + j - 1) 0 ≡ 0 → NoneFrom j m → NoneFrom (j - 1) m
+  none-back j m pos z h k l q i =
+      elim (ℕ-discrete k (j - 1)) [
+        | yes e ↦ let g : base + (j - 1) ≡ base + j - 1 = omega arith in zero-none z (i .0) (rw (e, g) at (i .1))
+        | no n ↦ let o : k ≢ j - 1 = n in h k (omega arith) q i
+      ]
+
+  pub past-at : (m j : ℕ) → j ≤ m → NoneFrom j m → (0 < j → getD words (base + j - 1) 0 ≡ 0 → ⊥) → PastLags words base m j
+  past-at m j l h n =
       record {
-        states = λ q. (
-          (λ i. ⊎-elim (λ k. let (j, l, x) = h .states q .0 k in (j, omega arith, x)) (λ k. (m, omega arith, k)) (a .states q .0 i)),
-          (λ (j, l, x). a .states q .1 (elim (ℕ-discrete j m) [
-            | yes e ↦ inr (rw e at x)
-            | no d ↦ let o : j ≢ m = d in inl (h .states q .1 (j, omega arith, x))
-          ])),
-        );
-        lags = λ j. (
-          (λ i. ⊎-elim (λ k. let (l, q, x) = h .lags j .0 k in (omega arith, q, x)) (λ (q, x, e). (omega arith, q, rw e at x)) (a .lags j .0 i)),
-          (λ (l, q, x). a .lags j .1 (elim (ℕ-discrete m j) [
-            | yes e ↦ inr (q, rw e x, e)
-            | no d ↦ let o : m ≢ j = d in inl (h .lags j .1 (omega arith, q, x))
-          ])),
-        );
+        most = l;
+        here = λ k. let g : base + j - 1 ≡ base + (j - 1) = omega arith in some-in (getD words (base + (j - 1)) 0) (λ z. n k (rw g z));
+        none-above = h;
       }

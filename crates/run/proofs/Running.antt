@@ -1,20 +1,21 @@
 -- A run, event by event: the words by lag hold the plausible set, and the lines written are those of the plausible sets. Assumes nothing.
 use mathlib.Core.Path.{_≡_, refl, sym, _∙_, ap}
+use mathlib.Core.Bool.{Bool, true, false}
 use mathlib.Core.List.{List, [], _∷_, _++_, append-nil}
 use mathlib.Core.Logic.{_↔_, _⊎_, inl, inr, ⊎-elim}
 use mathlib.Core.Option.{Option, some, none}
 use Prim.Native.Nat.{ℕ, zero, suc, _+_, _-_, _*_, _≤_, _<_, min}
 use native.Mathlib.Omega.{arith}
 use native.Mathlib.Numerals.{add-one}
-use lib.ListN.{length, getD, take, set, length-set, length-take, length-append}
-use lib.Seq.{take-suc, take-length, getD-set-same, getD-set-other}
+use lib.ListN.{length, getD, take, set, length-set, length-take, length-append, drop, take-append-drop}
+use lib.Seq.{take-suc, take-all, take-add, take-append-le, take-length, getD-set-same, getD-set-other}
 use Rattle.model.specs.Table.{Table, Valid, Bounded}
-use Rattle.model.specs.Model.{box, Event, input, output, event, events, inputs-of, Config, cfg, Plausible, Alive, FlagIs}
+use Rattle.model.specs.Model.{Device, box, Event, input, output, event, events, inputs-of, Config, cfg, Plausible, Empty, Alive, FlagIs}
 use Rattle.model.specs.Levels.{oldest}
-use Rattle.model.proofs.Flags.{lt-or-ge, flag-none, flag-falls, flag-stays}
+use Rattle.model.proofs.Flags.{lt-or-ge, flag-none, flag-falls}
 use Rattle.model.proofs.Bytes.{events-append, events-length}
 use Rattle.model.proofs.Newest.{inputs-append}
-use Rattle.model.proofs.Demands.{opens}
+use Rattle.model.proofs.Demands.{opens, stays-empty}
 use Rattle.table.specs.Bytes.{table-of, symbol-of}
 use Rattle.table.specs.declared.answer.Symbol.the-variants.{Input, Output}
 use Rattle.table.specs.declared.answer.Test.the-variants.{Passed}
@@ -30,8 +31,9 @@ use Rattle.monitor.proofs.Laws.{opening-passes}
 use Rattle.run.specs.declared.trace.Place.{Place}
 use Rattle.run.specs.Run.{Line, At, RunTo, Followed}
 use Rattle.run.specs.Lag.{Lagged, Came, Went}
-use Rattle.run.specs.Trace.{Stepped, came, went, FlagNext, stays, clear, falls, Recorded}
+use Rattle.run.specs.Trace.{Stepped, came, went, Finds, Recorded, empty-line, Emptied}
 use Rattle.run.proofs.Moves.{input-plausible, input-heads, input-small, output-plausible}
+use Rattle.run.proofs.Lines.{empty-is}
 use Rattle.run.proofs.Whole.{line-same}
 
 -- an event leaves the window and the line within their room
@@ -74,19 +76,33 @@ first-lagged c pos x = (to, from)
 
 -- THE TRACE
 
+-- a flag stays where it fell
+flag-longer : (D : Device) (B c : ℕ) (t more : List Event) (p : ℕ) → FlagIs D B c t (some p) → FlagIs D B c (t ++ more) (some p)
+flag-longer D B c t more p (l, e, n) = (
+  simp length-append (omega arith),
+  rw (take-append-le (suc p) t more l) e,
+  λ j q. rw (take-append-le (suc j) t more (omega arith)) (n j q),
+)
+
 -- the inputs among the first k events
 abbrev pub inputs-in : List ℕ → ℕ → List ℕ
 inputs-in trace k = inputs-of (events (take k trace))
 
+-- the place of the flag, while the last event may be the first after which nothing is found
+abbrev pub place-by : Bool → ℕ → Option ℕ
+place-by true k = none
+place-by false k = some (k - 1)
+
 -- what holds for every count of states with which the table passes its tests
-pub record Kept (rows : List ℕ) (s i o B c : ℕ) (bytes words : List ℕ) (p : Place) (f : Flag) : Type 0 where
+pub record Kept (rows : List ℕ) (s i o B c : ℕ) (bytes words : List ℕ) (p : Place) (found : Bool) : Type 0 where
   pub plausible : (x : Config ℕ) → Lagged words (p .base) (p .count) c x ↔ Plausible (box (table-of rows s i o)) B c (events bytes) x
-  pub flag : FlagIs (box (table-of rows s i o)) B c (events bytes) (place-of f)
+  pub flag : FlagIs (box (table-of rows s i o)) B c (events bytes) (place-by found (length bytes))
 
 module _ (rows : List ℕ) (i o B c : ℕ) (trace before : List ℕ) where
   -- after k events the words hold the plausible set, and the lines up to here are written
-  pub record Following (words line : List ℕ) (p : Place) (k : ℕ) (out : List ℕ) (f : Flag) : Type 0 where
+  pub record Following (words line : List ℕ) (p : Place) (k : ℕ) (out : List ℕ) (found : Bool) : Type 0 where
     pub some-of : k ≤ length trace
+    pub begun : found ≡ false → 0 < k
     pub count : p .count ≡ min B (length (inputs-in trace k))
     pub low : p .base ≤ 64
     pub words-long : length words ≡ 104
@@ -95,14 +111,15 @@ module _ (rows : List ℕ) (i o B c : ℕ) (trace before : List ℕ) where
     pub small : (w : ℕ) → w < p .count → getD line (p .base + w) 0 < i
     pub size : length out ≡ length before
     pub rest : (q : ℕ) → 12 * k ≤ q → getD out q 0 ≡ getD before q 0
-    pub kept : (s : ℕ) → opening rows s i o B c ≡ Passed → Kept rows s i o B c (take k trace) words p f
+    pub kept : (s : ℕ) → opening rows s i o B c ≡ Passed → Kept rows s i o B c (take k trace) words p found
     pub lines : (s : ℕ) → opening rows s i o B c ≡ Passed → (j : ℕ) → j < k
         → (bytes : List ℕ) × Line (Plausible (box (table-of rows s i o)) B c (events (take (suc j) trace))) bytes × At (12 * j) bytes out
 
-  pub following-none : (words line : List ℕ) → words ≡ first-words → length line ≡ 104 → 0 < c → Following words line (record { base = 64; count = 0 }) 0 before flag.None
+  pub following-none : (words line : List ℕ) → words ≡ first-words → length line ≡ 104 → 0 < c → Following words line (record { base = 64; count = 0 }) 0 before true
   following-none words line e ll pos =
       record {
         some-of = omega arith;
+        begun = λ e. absurd (let z : _≡_ {A = ℕ} 0 1 = cc in omega arith);
         count = omega arith;
         low = omega arith;
         words-long = ap length e ∙ length-set (zeros 104) 64 1 ∙ length-zeros 104;
@@ -121,7 +138,7 @@ module _ (rows : List ℕ) (i o B c : ℕ) (trace before : List ℕ) where
       }
 
   -- one event more
-  module _ (words line : List ℕ) (p : Place) (k : ℕ) (out : List ℕ) (f : Flag) (here : k < length trace) (h : Following words line p k out f) where
+  module _ (words line : List ℕ) (p : Place) (k : ℕ) (out : List ℕ) (here : k < length trace) (h : Following words line p k out true) where
     b : ℕ
     b = getD trace k 0
 
@@ -193,8 +210,8 @@ module _ (rows : List ℕ) (i o B c : ℕ) (trace before : List ℕ) where
     left few words′ line′ p′ (came {a = a} e count cm) = left-input few a p′ words′ line′ e count cm
     left few words′ line′ p′ (went {a = a} e long wt) = left-output a words′ e long wt
 
-    module _ (few : B ≤ 32) (words′ line′ : List ℕ) (p′ : Place) (out′ : List ℕ) (g : Flag) (st : Stepped rows i o B c (getD trace k 0) p words line p′ words′ line′)
-        (rec : Recorded words′ p′ c k out out′ f g) where
+    module _ (few : B ≤ 32) (words′ line′ : List ℕ) (p′ : Place) (out′ : List ℕ) (found : Bool) (st : Stepped rows i o B c (getD trace k 0) p words line p′ words′ line′)
+        (rec : Recorded words′ p′ c k out out′ found) where
       l : Left words′ line′ p′
       l = left few words′ line′ p′ st
 
@@ -202,14 +219,17 @@ module _ (rows : List ℕ) (i o B c : ℕ) (trace before : List ℕ) where
         now : (x : Config ℕ) → Lagged words′ (p′ .base) (p′ .count) c x ↔ Plausible (box (table-of rows s i o)) B c (events (take (k + 1) trace)) x
         now = left few words′ line′ p′ st .plausible s passes
 
-        flag-now : (f g : Flag) → FlagIs (box (table-of rows s i o)) B c (events (take k trace)) (place-of f) → FlagNext k (Lagged words′ (p′ .base) (p′ .count) c) f g
-            → FlagIs (box (table-of rows s i o)) B c (events (take (k + 1) trace)) (place-of g)
-        flag-now f g was stays = rw events-more (flag-stays (box (table-of rows s i o)) B c (events (take k trace)) (event (getD trace k 0)) _ was)
-        flag-now f g was (clear x y) =
-            rw events-more (flag-none (box (table-of rows s i o)) B c (events (take k trace)) (event (getD trace k 0)) was (x, rw events-more at (now x .0 y)))
-        flag-now f g was (falls n) =
-            let e : length (events (take k trace)) ≡ k = events-length (take k trace) ∙ simp length-take (omega arith) in
-            let fallen = flag-falls (box (table-of rows s i o)) B c (events (take k trace)) (event (getD trace k 0)) was (λ x y. n x (now x .1 (rw events-more y))) in
+        longer : length (take (k + 1) trace) ≡ k + 1
+        longer = simp length-take (omega arith)
+
+        flag-now : (found : Bool) → Finds (Lagged words′ (p′ .base) (p′ .count) c) found
+            → FlagIs (box (table-of rows s i o)) B c (events (take (k + 1) trace)) (place-by found (length (take (k + 1) trace)))
+        flag-now true f =
+            let (x, y) = f .yes refl in
+            rw events-more (flag-none (box (table-of rows s i o)) B c (events (take k trace)) (event (getD trace k 0)) (h .kept s passes .flag) (x, rw events-more at (now x .0 y)))
+        flag-now false f =
+            let e : length (events (take k trace)) ≡ length (take (k + 1) trace) - 1 = events-length (take k trace) ∙ simp length-take (omega arith) in
+            let fallen = flag-falls (box (table-of rows s i o)) B c (events (take k trace)) (event (getD trace k 0)) (h .kept s passes .flag) (λ x y. f .no refl x (now x .1 (rw events-more y))) in
             rw events-more (rw e at fallen)
 
         line-now : Line (Plausible (box (table-of rows s i o)) B c (events (take (suc k) trace))) (rec .line)
@@ -223,11 +243,12 @@ module _ (rows : List ℕ) (i o B c : ℕ) (trace before : List ℕ) where
             old : j < k → (bytes : List ℕ) × Line (Plausible (box (table-of rows s i o)) B c (events (take (suc j) trace))) bytes × At (12 * j) bytes out′
             old m = let (bytes, is, at) = h .lines s passes j m in (bytes, is, λ p q. rec .put .below (12 * j + p) (omega arith) ∙ at p q)
 
-      pub following-more : Following words′ line′ p′ (k + 1) out′ g
+      pub following-more : Following words′ line′ p′ (k + 1) out′ found
       unfolding l
       following-more =
           record {
             some-of = omega arith;
+            begun = λ e. omega arith;
             count = l .count;
             low = l .low;
             words-long = l .words-long;
@@ -236,16 +257,71 @@ module _ (rows : List ℕ) (i o B c : ℕ) (trace before : List ℕ) where
             small = l .small;
             size = rec .put .size ∙ h .size;
             rest = λ q m. rec .put .above q (omega arith) ∙ h .rest q (omega arith);
-            kept = λ s passes. record { plausible = now s passes; flag = flag-now s passes f g (h .kept s passes .flag) (rec .flag) };
+            kept = λ s passes. record { plausible = now s passes; flag = flag-now s passes found (rec .finds) };
             lines = line-at;
           }
 
   -- after all of them
-  pub run-end : (words line : List ℕ) (p : Place) (k : ℕ) (out : List ℕ) (f : Flag) → k ≡ length trace → Following words line p k out f → Followed rows i o B c trace before out f
-  run-end words line p k out f e h s passes =
+  pub run-end : (words line : List ℕ) (p : Place) (k : ℕ) (out : List ℕ) → k ≡ length trace → Following words line p k out true → Followed rows i o B c trace before out flag.None
+  run-end words line p k out e h s passes =
       record {
         size = h .size;
         lines = λ j l. h .lines s passes j (omega arith);
         rest = λ q l. h .rest q (omega arith);
         flag = let a : take k trace ≡ trace = rw e (take-length trace) in rw a at (h .kept s passes .flag);
       }
+
+  -- after the first that left nothing
+  module _ (words line : List ℕ) (p : Place) (k : ℕ) (out after : List ℕ) (h : Following words line p k out false) (em : Emptied k (length trace) out after) (s : ℕ)
+      (passes : opening rows s i o B c ≡ Passed) where
+    D : Device
+    D = box (table-of rows s i o)
+
+    len : length (take k trace) ≡ k
+    len = simp length-take (omega (arith, h .some-of))
+
+    fallen : FlagIs (box (table-of rows s i o)) B c (events (take k trace)) (some (k - 1))
+    fallen = rw len at (h .kept s passes .flag)
+
+    -- an event came, after which the set was empty
+    came-one : 0 < k
+    came-one = h .begun refl
+
+    empty : Empty (box (table-of rows s i o)) B c (events (take k trace))
+    empty =
+        let e = events-length (take k trace) ∙ len in
+        let a : take (suc (k - 1)) (events (take k trace)) ≡ events (take k trace) = take-all (suc (k - 1)) (events (take k trace)) (omega (arith, came-one)) in
+        rw a at (fallen .1)
+
+    -- every longer beginning is that and more, and so is the whole
+    longer-empty : (j : ℕ) → k ≤ j → Empty (box (table-of rows s i o)) B c (events (take j trace))
+    longer-empty j l =
+        let e : k + (j - k) ≡ j = omega arith in
+        let a : take j trace ≡ take k trace ++ take (j - k) (drop k trace) = rw e at (take-add k (j - k) trace) in
+        let b : events (take j trace) ≡ events (take k trace) ++ events (take (j - k) (drop k trace)) = rw (a, events-append) in
+        rw b (stays-empty (box (table-of rows s i o)) B c (events (take k trace)) (events (take (j - k) (drop k trace))) empty)
+
+    whole-flag : FlagIs (box (table-of rows s i o)) B c (events trace) (some (k - 1))
+    whole-flag =
+        let a : events trace ≡ events (take k trace) ++ events (drop k trace) =
+        sym (ap events (take-append-drop k trace)) ∙ events-append (take k trace) (drop k trace) in
+        rw a (flag-longer (box (table-of rows s i o)) B c (events (take k trace)) (events (drop k trace)) (k - 1) fallen)
+
+    line-flagged : (j : ℕ) → j < length trace
+        → (bytes : List ℕ) × Line (Plausible (box (table-of rows s i o)) B c (events (take (suc j) trace))) bytes × At (12 * j) bytes after
+    line-flagged j l =
+        ⊎-elim (λ m. let (bytes, is, at) = h .lines s passes j m in (bytes, is, λ p q. em .below (12 * j + p) (omega arith) ∙ at p q))
+        (λ m. (empty-line, empty-is (Plausible (box (table-of rows s i o)) B c (events (take (suc j) trace))) (longer-empty (suc j) (omega arith)), em .lines j m l)) (lt-or-ge j k)
+
+    flagged-run : RunTo rows s i o B c trace before after (flag.At (k - 1))
+    flagged-run =
+        record {
+          size = em .size ∙ h .size;
+          lines = line-flagged;
+          rest = λ q l. em .above q l ∙ h .rest q (omega (arith, h .some-of));
+          flag = whole-flag;
+        }
+
+  pub run-flagged : (words line : List ℕ) (p : Place) (k : ℕ) (out after : List ℕ) → Following words line p k out false → Emptied k (length trace) out after
+      → Followed rows i o B c trace before after (flag.At (k - 1))
+  run-flagged words line p k out after h em s passes = flagged-run words line p k out after h em s passes

@@ -1,11 +1,13 @@
 -- The plausible set of a run, kept by lag: waiting + run, the inputs that came after the one last taken. Assumes nothing.
 use mathlib.Core.Path.{_≡_}
+use mathlib.Core.Bool.{Bool, true, false}
 use mathlib.Core.List.{List, [], _∷_, _++_}
 use mathlib.Core.Logic.{_↔_, _⊎_}
 use Prim.Native.Nat.{ℕ, suc, _+_, _-_, _≤_, _<_, min}
+use lib.Dec.{eqb}
 use lib.ListN.{length, getD}
 use Rattle.model.specs.Model.{Config}
-use Rattle.states.specs.In.{In, Least, Most}
+use Rattle.states.specs.In.{In}
 use Rattle.states.specs.Rows.{Leads, Image}
 use Rattle.run.specs.declared.lag.Tally.{Tally}
 use Rattle.run.specs.Run.{number}
@@ -83,39 +85,42 @@ pub record Went (rows : List ℕ) (width column c : ℕ) (line : List ℕ) (base
 
 -- THE TALLY
 
--- t is the tally s with the word x at lag j.
-pub record Counted (s : Tally) (x j : ℕ) (t : Tally) : Type 0 where
-  pub states : (q : ℕ) → In q (t .states) ↔ (In q (s .states) ⊎ In q x)
-  pub lags : (v : ℕ) → In v (t .lags) ↔ (In v (s .lags) ⊎ ((q : ℕ) × In q x × (j ≡ v)))
+-- The word of lag j has a state.
+abbrev pub HasLag : List ℕ → ℕ → ℕ → Type 0
+HasLag words base j = (q : ℕ) × In q (getD words (base + j) 0)
 
--- t has the states at the m first lags, and those lags that have any.
+-- r is the least of the m first lags that has a state, and m where none has.
+pub record LeastLag (words : List ℕ) (base m r : ℕ) : Type 0 where
+  pub most : r ≤ m
+  pub here : r < m → HasLag words base r
+  pub none-below : (j : ℕ) → j < r → HasLag words base j → ⊥
+
+-- r is one more than the greatest of the m first lags that has a state, and 0 where none has.
+pub record PastLags (words : List ℕ) (base m r : ℕ) : Type 0 where
+  pub most : r ≤ m
+  pub here : 0 < r → HasLag words base (r - 1)
+  pub none-above : (j : ℕ) → r ≤ j → j < m → HasLag words base j → ⊥
+
 pub record Tallied (words : List ℕ) (base m : ℕ) (t : Tally) : Type 0 where
-  pub states : (q : ℕ) → In q (t .states) ↔ ((j : ℕ) × (j < m) × In q (getD words (base + j) 0))
-  pub lags : (j : ℕ) → In j (t .lags) ↔ ((j < m) × (q : ℕ) × In q (getD words (base + j) 0))
+  pub states : (q : ℕ) → In q (t .states) ↔ Within words base m q
+  pub least : LeastLag words base m (t .least)
+  pub past : PastLags words base m (t .past)
 
 -- THE LINE
 
--- r is x less k, not below 0; it is x, not above k. 255 stands for none, and stays.
-pub record Back (x k r : ℕ) : Type 0 where
-  pub none : x ≡ 255 → r ≡ 255
-  pub some : (x ≡ 255 → ⊥) → r ≡ x - k
+-- Of a least lag x at least x less k, and of a greatest at most k. There is none where no lag has a state: 255 stands for that.
+abbrev pub from-least : Bool → ℕ → ℕ → ℕ
+from-least true x k = 255
+from-least false x k = x - k
 
-pub record Capped (x k r : ℕ) : Type 0 where
-  pub none : x ≡ 255 → r ≡ 255
-  pub some : (x ≡ 255 → ⊥) → r ≡ min x k
+abbrev pub from-most : Bool → ℕ → ℕ → ℕ
+from-most true x k = 255
+from-most false x k = min x k
 
--- The line of a tally.
-pub record LineOf (t : Tally) (n c : ℕ) (line : List ℕ) : Type 0 where
-  pub low : ℕ
-  pub high : ℕ
-  pub least-waiting : ℕ
-  pub most-waiting : ℕ
-  pub least-run : ℕ
-  pub most-run : ℕ
-  pub low-is : Least (t .lags) low
-  pub high-is : Most (t .lags) high
-  pub least-waiting-is : Back low (c - 1) least-waiting
-  pub most-waiting-is : Capped high n most-waiting
-  pub least-run-is : Back low n least-run
-  pub most-run-is : Capped high (c - 1) most-run
-  pub bytes-are : line ≡ number (t .states) ++ (least-waiting ∷ most-waiting ∷ least-run ∷ most-run ∷ [])
+-- The line of a tally. Of a lag at least what cannot be lost waits, and at least what cannot wait is lost; at most all of it waits, or is
+-- lost, within its bound.
+abbrev pub line-of : Tally → ℕ → ℕ → List ℕ
+line-of t n c =
+    number (t .states)
+    ++ (from-least (eqb (t .past) 0) (t .least) (c - 1) ∷ from-most (eqb (t .past) 0) (t .past - 1) n
+    ∷ from-least (eqb (t .past) 0) (t .least) n ∷ from-most (eqb (t .past) 0) (t .past - 1) (c - 1) ∷ [])

@@ -1,16 +1,14 @@
 -- What one event does to a run, as the code does it. Assumes nothing.
 use mathlib.Core.Path.{_≡_}
 use mathlib.Core.Bool.{Bool, true, false}
-use mathlib.Core.List.{List}
-use Prim.Native.Nat.{ℕ, _+_, _*_, min}
-use lib.ListN.{length}
+use mathlib.Core.List.{List, [], _∷_, _++_}
+use Prim.Native.Nat.{ℕ, _+_, _*_, _≤_, _<_, min}
+use lib.ListN.{length, getD}
 use Rattle.model.specs.Model.{Config, Set}
 use Rattle.table.specs.Bytes.{symbol-of}
 use Rattle.table.specs.declared.answer.Symbol.the-variants.{Input, Output}
-use Rattle.monitor.specs.declared.session.Flag.{Flag}
-use Rattle.monitor.specs.declared.session.Flag.the-variants as flag
 use Rattle.run.specs.declared.trace.Place.{Place}
-use Rattle.run.specs.Run.{Line, Put}
+use Rattle.run.specs.Run.{number, Line, Put, At}
 use Rattle.run.specs.Lag.{Lagged, Came, Went}
 
 -- One valid event more: an input, or an output.
@@ -25,21 +23,20 @@ pub record Finds (S : Set ℕ) (found : Bool) : Type 0 where
   pub yes : found ≡ true → (x : Config ℕ) × S x
   pub no : found ≡ false → (x : Config ℕ) → S x → ⊥
 
--- A flag stays. Where there was none and nothing was found, it falls at this event.
-abbrev pub flag-by : Flag → Bool → ℕ → Flag
-flag-by (flag.At place) found k = flag.At place
-flag-by flag.None true k = flag.None
-flag-by flag.None false k = flag.At k
-
--- The same, of a set.
-pub data FlagNext (k : ℕ) (S : Set ℕ) : Flag → Flag → Type 0 where
-  stays : {place : ℕ} → FlagNext k S (flag.At place) (flag.At place)
-  clear : (x : Config ℕ) → S x → FlagNext k S flag.None flag.None
-  falls : ((x : Config ℕ) → S x → ⊥) → FlagNext k S flag.None (flag.At k)
-
--- The line of the set is written for event k, and the flag falls if there is nothing.
-pub record Recorded (words : List ℕ) (p : Place) (c k : ℕ) (before after : List ℕ) (f g : Flag) : Type 0 where
+-- The line of the set is written for event k, and whether there is anything is told.
+pub record Recorded (words : List ℕ) (p : Place) (c k : ℕ) (before after : List ℕ) (found : Bool) : Type 0 where
   pub line : List ℕ
   pub put : Put (12 * k) line before after
   pub of-set : Line (Lagged words (p .base) (p .count) c) line
-  pub flag : FlagNext k (Lagged words (p .base) (p .count) c) f g
+  pub finds : Finds (Lagged words (p .base) (p .count) c) found
+
+-- The line of nothing.
+abbrev pub empty-line : List ℕ
+empty-line = number 0 ++ (255 ∷ 255 ∷ 255 ∷ 255 ∷ [])
+
+-- It stands for the events from k to below n, and the other bytes are as they were.
+pub record Emptied (k n : ℕ) (before after : List ℕ) : Type 0 where
+  pub size : length after ≡ length before
+  pub lines : (i : ℕ) → k ≤ i → i < n → At (12 * i) empty-line after
+  pub below : (q : ℕ) → q < 12 * k → getD after q 0 ≡ getD before q 0
+  pub above : (q : ℕ) → 12 * n ≤ q → getD after q 0 ≡ getD before q 0

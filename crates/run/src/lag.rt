@@ -4,19 +4,20 @@
 // The words stand in a window: an input moves its base down by one place and copies nothing. The inputs of the line stand beside them,
 // the newest first, so that the head of a line of w + 1 is at place w.
 ghost use mathlib.Core.Path.{_≡_};
-ghost use mathlib.Core.Logic.{_↔_, _⊎_};
+ghost use mathlib.Core.Logic.{_↔_};
 ghost use Prim.Native.Nat.{ℕ, _+_, _≤_, _<_};
 ghost use lib.ListN.{length, getD};
 ghost use Rattle.states.specs.In.{In};
-ghost use Rattle.run.specs.Lag.{Within, Drawn, Copied, Based, Came, FollowedFrom, DrawnFrom, Went, Counted, Tallied};
+ghost use Rattle.run.specs.Lag.{Within, Drawn, Copied, Based, Came, FollowedFrom, DrawnFrom, Went, LeastLag, PastLags, Tallied};
 
 // Where the window begins when it has been moved up.
 const TOP: usize = 64;
 
-// The states at all lags of a set, and its lags, each as a word.
+// The states at all lags of a set, the least lag that has one, and the one past the greatest.
 pub(crate) struct Tally {
     pub states: u64,
-    pub lags: u64,
+    pub least: usize,
+    pub past: usize,
 }
 
 // x, if fewer than c are lost.
@@ -166,26 +167,42 @@ pub(crate) fn sent(
 
 // THE TALLY
 
-// The lags so far, and j if its word has a state.
-fn with_lag(lags: u64, x: u64, j: usize) -> u64
-    requires { ⌜ j < 64 ⌝ }
-    ensures { λ r. ⌜ ((v : ℕ) → In v r ↔ (In v lags ⊎ ((q : ℕ) × In q x × (j ≡ v)))) ⌝ }
+// The states at the m first lags.
+fn states_of(words: &[u64; 104], base: usize, m: usize) -> u64
+    requires { ⌜ (base ≤ 64) × (m ≤ 40) ⌝ }
+    ensures { λ r. ⌜ ((s : ℕ) → In s r ↔ Within (now (words .entry)) base m s) ⌝ }
 {
-    if x == 0 {
-        return lags;
+    let mut all: u64 = 0;
+    let mut j: usize = 0;
+    while j < m {
+        all = all | words[base + j];
+        j += 1;
     }
-    lags | (1u64 << j)
+    all
 }
 
-// The tally with the word x at lag j.
-fn counted(t: Tally, x: u64, j: usize) -> Tally
-    requires { ⌜ j < 64 ⌝ }
-    ensures { λ r. ⌜ Counted t x j r ⌝ }
+// The least of the m first lags that has a state; m, where none has.
+fn least_of(words: &[u64; 104], base: usize, m: usize) -> usize
+    requires { ⌜ (base ≤ 64) × (m ≤ 40) ⌝ }
+    ensures { λ r. ⌜ LeastLag (now (words .entry)) base m r ⌝ }
 {
-    Tally {
-        states: t.states | x,
-        lags: with_lag(t.lags, x, j),
+    let mut j: usize = 0;
+    while j < m && words[base + j] == 0 {
+        j += 1;
     }
+    j
+}
+
+// One more than the greatest of the m first lags that has a state; 0, where none has.
+fn past_of(words: &[u64; 104], base: usize, m: usize) -> usize
+    requires { ⌜ (base ≤ 64) × (m ≤ 40) ⌝ }
+    ensures { λ r. ⌜ PastLags (now (words .entry)) base m r ⌝ }
+{
+    let mut j = m;
+    while 0 < j && words[base + j - 1] == 0 {
+        j -= 1;
+    }
+    j
 }
 
 // What stands at the m first lags.
@@ -193,11 +210,9 @@ pub(crate) fn tally_of(words: &[u64; 104], base: usize, m: usize) -> Tally
     requires { ⌜ (base ≤ 64) × (m ≤ 40) ⌝ }
     ensures { λ t. ⌜ Tallied (now (words .entry)) base m t ⌝ }
 {
-    let mut t = Tally { states: 0, lags: 0 };
-    let mut j: usize = 0;
-    while j < m {
-        t = counted(t, words[base + j], j);
-        j += 1;
+    Tally {
+        states: states_of(words, base, m),
+        least: least_of(words, base, m),
+        past: past_of(words, base, m),
     }
-    t
 }

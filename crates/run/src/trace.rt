@@ -6,7 +6,7 @@ ghost use Rattle.model.specs.Limits.{most-events};
 ghost use Rattle.table.specs.Bytes.{symbol-of};
 ghost use Rattle.table.specs.declared.answer.Symbol.the-variants.{Invalid};
 ghost use Rattle.run.specs.Run.{Followed};
-ghost use Rattle.run.specs.Trace.{flag-by, Stepped, Recorded};
+ghost use Rattle.run.specs.Trace.{Stepped, Recorded};
 use crate::lag;
 use crate::line;
 use monitor::session::Flag;
@@ -76,28 +76,18 @@ fn step(
     }
 }
 
-// A flag stays; where there was none and nothing was found, it falls at this event.
-fn flagged(flag: Flag, found: bool, event: usize) -> Flag
-    ensures { λ r. ⌜ r ≡ flag-by flag found event ⌝ }
-{
-    match flag {
-        Flag::At(place) => Flag::At(place),
-        Flag::None => { if found { Flag::None } else { Flag::At(event) } }
-    }
-}
-
-// The line of the set is written for event k, and the flag falls if nothing is plausible any more.
-fn recorded(words: &[u64; 104], at: Place, c: usize, out: &mut [u8], k: usize, flag: Flag) -> Flag
+// The line of the set is written for event k; the answer is whether anything is plausible.
+fn recorded(words: &[u64; 104], at: Place, c: usize, out: &mut [u8], k: usize) -> bool
     requires { ⌜ (at .base ≤ 64) × (at .count ≤ 32) × (0 < c) × (c ≤ 8) × (k < most-events) × (12 * k + 12 ≤ length (now out)) ⌝ }
-    ensures { λ g. ⌜ Recorded (now (words .entry)) at c k (now (out .entry)) (now (out .exit)) flag g ⌝ }
+    ensures { λ found. ⌜ Recorded (now (words .entry)) at c k (now (out .entry)) (now (out .exit)) found ⌝ }
 {
     let t = lag::tally_of(words, at.base, at.count + c);
     let found = t.states != 0;
     line::put(&mut *out, 12 * k, line::line(t, at.count as u8, c as u8));
-    flagged(flag, found, k)
+    found
 }
 
-// All events of a trace that passed its tests.
+// All events of a trace that passed its tests. The flag falls at the first after which nothing is plausible; from then on nothing is.
 pub(crate) fn followed<'a>(
     rows: &'a [u8],
     inputs: u8,
@@ -115,9 +105,9 @@ pub(crate) fn followed<'a>(
     words[64] = 1;
     let mut line = [0u8; 104];
     let mut at = Place { base: 64, count: 0 };
-    let mut flag = Flag::None;
+    let mut found = true;
     let mut k: usize = 0;
-    while k < trace.len() {
+    while found && k < trace.len() {
         at = step(
             &mut words,
             &mut line,
@@ -129,8 +119,12 @@ pub(crate) fn followed<'a>(
             c,
             trace[k],
         );
-        flag = recorded(&words, at, c, &mut *out, k, flag);
+        found = recorded(&words, at, c, &mut *out, k);
         k += 1;
     }
-    flag
+    if found {
+        return Flag::None;
+    }
+    line::emptied(&mut *out, k, trace.len());
+    Flag::At(k - 1)
 }
