@@ -1,4 +1,5 @@
 pub mod Laws
+mod Columns
 mod Lags
 mod Moves
 mod Lines

@@ -8,7 +8,9 @@ ghost use mathlib.Core.Logic.{_↔_};
 ghost use Prim.Native.Nat.{ℕ, _+_, _≤_, _<_};
 ghost use lib.ListN.{length, getD};
 ghost use Rattle.states.specs.In.{In};
+ghost use Rattle.run.specs.Column.{Ready};
 ghost use Rattle.run.specs.Lag.{Within, Drawn, Copied, Based, Came, FollowedFrom, DrawnFrom, Went, LeastLag, PastLags, Tallied};
+use crate::column;
 
 // Where the window begins when it has been moved up.
 const TOP: usize = 64;
@@ -42,11 +44,19 @@ fn within(words: &[u64; 104], at: usize, c: usize) -> u64
 }
 
 // Where a take of input a leads from the waiting count whose words begin at this place.
-fn drawn(words: &[u64; 104], at: usize, c: usize, rows: &[u8], width: u8, a: u8) -> u64
-    requires { ⌜ (at ≤ 96) × (c ≤ 8) ⌝ }
+fn drawn<'a>(
+    words: &[u64; 104],
+    at: usize,
+    c: usize,
+    columns: &'a [u64; 160],
+    rows: &'a [u8],
+    width: u8,
+    a: u8,
+) -> u64
+    requires { ⌜ (at ≤ 96) × (c ≤ 8) × (a < width) × (width ≤ 32) × Ready (now rows) width width (now columns) ⌝ }
     ensures { λ r. ⌜ ((t : ℕ) → In t r ↔ Drawn (now (rows .entry)) width a c (now (words .entry)) at t) ⌝ }
 {
-    states::image(rows, width, a, within(words, at, c))
+    column::image(columns, rows, width, a, within(words, at, c))
 }
 
 // AN INPUT
@@ -92,21 +102,22 @@ fn based(words: &mut [u64; 104], line: &mut [u8; 104], base: usize) -> usize
 
 // Input a comes: every lag is one more, and at lag 0 is what takes it. The set is closed under takes of older inputs, and a loss leaves
 // the lag as it is. The answer is the new base.
-pub(crate) fn arrived(
+pub(crate) fn arrived<'a>(
     words: &mut [u64; 104],
     line: &mut [u8; 104],
     base: usize,
-    rows: &[u8],
+    columns: &'a [u64; 160],
+    rows: &'a [u8],
     width: u8,
     c: usize,
     a: u8,
 ) -> usize
-    requires { ⌜ (base ≤ 64) × (c ≤ 8) × (length (now words) ≡ 104) × (length (now line) ≡ 104) ⌝ }
+    requires { ⌜ (base ≤ 64) × (c ≤ 8) × (length (now words) ≡ 104) × (length (now line) ≡ 104) × (a < width) × (width ≤ 32) × Ready (now rows) width width (now columns) ⌝ }
     ensures { λ r. ⌜ Came (now (rows .entry)) width c a base (now (words .entry)) (now (line .entry)) r (now (words .exit)) (now (line .exit)) ⌝ }
 {
     let here = based(&mut *words, &mut *line, base) - 1;
     line[here] = a;
-    let x = drawn(&*words, here + 1, c, rows, width, a);
+    let x = drawn(&*words, here + 1, c, columns, rows, width, a);
     words[here] = x;
     here
 }
@@ -114,55 +125,75 @@ pub(crate) fn arrived(
 // AN OUTPUT
 
 // At the m first lags every state follows the column.
-fn follow(words: &mut [u64; 104], base: usize, m: usize, rows: &[u8], width: u8, column: u8)
-    requires { ⌜ (base ≤ 64) × (m ≤ 40) × (length (now words) ≡ 104) ⌝ }
+fn follow<'a>(
+    words: &mut [u64; 104],
+    base: usize,
+    m: usize,
+    columns: &'a [u64; 160],
+    rows: &'a [u8],
+    width: u8,
+    column: u8,
+)
+    requires { ⌜ (base ≤ 64) × (m ≤ 40) × (length (now words) ≡ 104) × (column < width) × (width ≤ 32) × Ready (now rows) width width (now columns) ⌝ }
     ensures { λ _. ⌜ FollowedFrom (now (rows .entry)) width column base m 0 (now (words .entry)) (now (words .exit)) ⌝ }
 {
     let mut j = m;
     while 0 < j {
         j -= 1;
-        let x = states::image(rows, width, column, words[base + j]);
+        let x = column::image(columns, rows, width, column, words[base + j]);
         words[base + j] = x;
     }
 }
 
 // Takes, from the longest line to the shortest: at lag w also stands where the head of a line of w + 1 leads when it is taken.
-fn draw(
+fn draw<'a>(
     words: &mut [u64; 104],
-    line: &[u8; 104],
+    line: &'a [u8; 104],
     base: usize,
     n: usize,
-    rows: &[u8],
+    columns: &'a [u64; 160],
+    rows: &'a [u8],
     width: u8,
     c: usize,
 )
-    requires { ⌜ (base ≤ 64) × (n ≤ 32) × (c ≤ 8) × (length (now words) ≡ 104) ⌝ }
+    requires { ⌜ (base ≤ 64) × (n ≤ 32) × (c ≤ 8) × (length (now words) ≡ 104) × (width ≤ 32) × Ready (now rows) width width (now columns) ⌝ }
+    requires { ⌜ ((w : ℕ) → w < n → getD (now line) (base + w) 0 < width) ⌝ }
     ensures { λ _. ⌜ DrawnFrom (now (rows .entry)) width c (now (line .entry)) base n 0 (now (words .entry)) (now (words .exit)) ⌝ }
 {
     let mut w = n;
     while 0 < w {
         w -= 1;
-        let x = drawn(&*words, base + w + 1, c, rows, width, line[base + w]);
+        let x = drawn(
+            &*words,
+            base + w + 1,
+            c,
+            columns,
+            rows,
+            width,
+            line[base + w],
+        );
         words[base + w] = words[base + w] | x;
     }
 }
 
 // An output is seen, which stands in this column. The line has n inputs.
-pub(crate) fn sent(
+pub(crate) fn sent<'a>(
     words: &mut [u64; 104],
-    line: &[u8; 104],
+    line: &'a [u8; 104],
     base: usize,
     n: usize,
-    rows: &[u8],
+    columns: &'a [u64; 160],
+    rows: &'a [u8],
     width: u8,
     column: u8,
     c: usize,
 )
-    requires { ⌜ (base ≤ 64) × (n ≤ 32) × (c ≤ 8) × (length (now words) ≡ 104) ⌝ }
+    requires { ⌜ (base ≤ 64) × (n ≤ 32) × (c ≤ 8) × (length (now words) ≡ 104) × (column < width) × (width ≤ 32) × Ready (now rows) width width (now columns) ⌝ }
+    requires { ⌜ ((w : ℕ) → w < n → getD (now line) (base + w) 0 < width) ⌝ }
     ensures { λ _. ⌜ Went (now (rows .entry)) width column c (now (line .entry)) base n (now (words .entry)) (now (words .exit)) ⌝ }
 {
-    follow(&mut *words, base, n + c, rows, width, column);
-    draw(&mut *words, line, base, n, rows, width, c);
+    follow(&mut *words, base, n + c, columns, rows, width, column);
+    draw(&mut *words, line, base, n, columns, rows, width, c);
 }
 
 // THE TALLY

@@ -7,6 +7,7 @@ use monitor::session::MOST_EVENTS;
 use table::Refusal;
 use table::Test;
 
+mod column;
 mod lag;
 mod line;
 mod trace;

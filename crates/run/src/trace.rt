@@ -5,8 +5,10 @@ ghost use lib.ListN.{length, getD};
 ghost use Rattle.model.specs.Limits.{most-events};
 ghost use Rattle.table.specs.Bytes.{symbol-of};
 ghost use Rattle.table.specs.declared.answer.Symbol.the-variants.{Invalid};
+ghost use Rattle.run.specs.Column.{Ready};
 ghost use Rattle.run.specs.Run.{Followed};
 ghost use Rattle.run.specs.Trace.{Stepped, Recorded};
+use crate::column;
 use crate::lag;
 use crate::line;
 use monitor::session::Flag;
@@ -27,11 +29,12 @@ fn grown(n: usize, most: usize) -> usize
 }
 
 // One valid event more.
-fn step(
+fn step<'a>(
     words: &mut [u64; 104],
     line: &mut [u8; 104],
     at: Place,
-    rows: &[u8],
+    columns: &'a [u64; 160],
+    rows: &'a [u8],
     inputs: u8,
     outputs: u8,
     most: usize,
@@ -40,6 +43,8 @@ fn step(
 ) -> Place
     requires { ⌜ (at .base ≤ 64) × (at .count ≤ most) × (most ≤ 32) × (c ≤ 8) × (inputs ≤ 16) × (outputs ≤ 16) × (length (now words) ≡ 104) × (length (now line) ≡ 104) ⌝ }
     requires { ⌜ (symbol-of byte inputs outputs ≡ Invalid → ⊥) ⌝ }
+    requires { ⌜ Ready (now rows) (inputs + outputs) (inputs + outputs) (now columns) ⌝ }
+    requires { ⌜ ((w : ℕ) → w < at .count → getD (now line) (at .base + w) 0 < inputs) ⌝ }
     ensures { λ r. ⌜ Stepped (now (rows .entry)) inputs outputs most c byte at (now (words .entry)) (now (line .entry)) r (now (words .exit)) (now (line .exit)) ⌝ }
 {
     let symbol = table::event(byte, inputs, outputs);
@@ -49,6 +54,7 @@ fn step(
                 &mut *words,
                 &mut *line,
                 at.base,
+                columns,
                 rows,
                 inputs + outputs,
                 c,
@@ -65,6 +71,7 @@ fn step(
                 &*line,
                 at.base,
                 at.count,
+                columns,
                 rows,
                 inputs + outputs,
                 inputs + a,
@@ -101,6 +108,8 @@ pub(crate) fn followed<'a>(
     requires { ⌜ ((k : ℕ) → k < length (now trace) → symbol-of (getD (now trace) k 0) inputs outputs ≡ Invalid → ⊥) ⌝ }
     ensures { λ f. ⌜ Followed (now (rows .entry)) inputs outputs most c (now (trace .entry)) (now (out .entry)) (now (out .exit)) f ⌝ }
 {
+    let mut columns = [0u64; 160];
+    column::ready(&mut columns, rows, inputs + outputs);
     let mut words = [0u64; 104];
     words[64] = 1;
     let mut line = [0u8; 104];
@@ -112,6 +121,7 @@ pub(crate) fn followed<'a>(
             &mut words,
             &mut line,
             at,
+            &columns,
             rows,
             inputs,
             outputs,

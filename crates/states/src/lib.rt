@@ -78,7 +78,7 @@ fn wide(x: u8) -> usize
 }
 
 // The byte in the column of row s, and 255 past the rows.
-fn byte(rows: &[u8], width: u8, column: u8, s: u8) -> u8
+pub fn byte(rows: &[u8], width: u8, column: u8, s: u8) -> u8
     ensures { λ r. ⌜ r ≡ byteAt (now (rows .entry)) width column s ⌝ }
 {
     let i = wide(s) * wide(width) + wide(column);

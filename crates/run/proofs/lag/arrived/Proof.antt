@@ -26,7 +26,7 @@ add-drawn c = search needs
 
 -- src/lag.rt:108:9
 drawn-requires : tie.Need-drawn-requires
-drawn-requires c κs = let b = c .before .based .ensures in (omega (arith, b .low), omega arith)
+drawn-requires c κs = let b = c .before .based .ensures in let p = c .before .before .before .before .before .pre in (omega (arith, b .low), omega arith, p .4, p .5, p .6)
 
 -- src/lag.rt:109:5
 mul-words : tie.Need-mul-words

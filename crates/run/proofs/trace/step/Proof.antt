@@ -26,7 +26,10 @@ add-arrived c = search needs
 
 -- src/trace.rt:48:17
 arrived-requires : tie.Need-arrived-requires
-arrived-requires c κs = search needs
+arrived-requires c κs =
+    let p = c .before .before .before .before .before .before .before .pre in
+    let l = given-means _ _ _ _ .0 (sym (c .before .before .before .before .before .event .ensures) ∙ c .before .before .before .symbol .given .1) .1 in
+    (p .0 .0, p .0 .3, p .0 .6, p .0 .7, omega (arith, l), omega arith, p .1 .1 .0)
 
 -- src/trace.rt:59:24
 grown-requires : tie.Need-grown-requires
@@ -46,7 +49,10 @@ add-sent-2 c = omega (arith, given-means _ _ _ _ .1 (sym (c .before .before .bef
 
 -- src/trace.rt:63:13
 sent-requires : tie.Need-sent-requires
-sent-requires c κs = search needs
+sent-requires c κs =
+    let p = c .before .before .before .before .before .before .before .pre in
+    let l = given-means _ _ _ _ .1 (sym (c .before .before .before .before .before .event .ensures) ∙ c .before .before .before .symbol2 .given .1) .1 in
+    ((p .0 .0, omega arith, p .0 .3, p .0 .6, omega (arith, l), omega arith, p .1 .1 .0), λ w k. let m = p .1 .1 .1 w k in omega arith)
 
 -- src/trace.rt:75:28
 enum-told : tie.Need-enum-told
@@ -65,7 +71,7 @@ returns-2 c =
 
 -- src/trace.rt:30:1
 returns-3 : tie.Need-returns-3
-returns-3 c = absurd (c .before .before .before .before .pre .1 (sym (c .before .before .event .ensures) ∙ c .enum-told .given .1))
+returns-3 c = absurd (c .before .before .before .before .pre .1 .0 (sym (c .before .before .event .ensures) ∙ c .enum-told .given .1))
 
 pub step-spec : {M : Type 1} → statement M
 step-spec =
