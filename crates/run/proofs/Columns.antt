@@ -8,13 +8,16 @@ use native.Mathlib.Omega.{arith}
 use native.Mathlib.Decide.{ℕ-discrete}
 use lib.Bits.{bitOr, bitAnd, shifted-even, or-zero-r}
 use lib.Dec.{lit<}
-use lib.ListN.{length, getD, set, length-set}
+use lib.ListN.{length, getD, set, length-set, List·getD-eq-default}
 use lib.Pow.{field, mod-mod-pow, shr-shr, shl-shr, pow-add, pow-pos}
 use lib.Seq.{getD-set-same, getD-set-other}
 use Rattle.model.proofs.Flags.{lt-or-ge}
-use Rattle.states.specs.In.{In, Has}
+use Rattle.states.specs.In.{In, Has, Least}
 use Rattle.states.specs.Rows.{byteAt, Leads, Image}
-use Rattle.states.proofs.Member.{not-in-zero, in-lt, in-or, in-and, in-shr, in-one}
+use Rattle.states.proofs.Member.{not-in-zero, in-lt, in-or, in-or-with, in-and, in-shr, in-one}
+use Rattle.states.proofs.Ends.{least-in, without-least}
+use Rattle.states.proofs.Through.{Going, going-more}
+use Rattle.states.proofs.Words.{getD-within}
 use Rattle.states.proofs.Same.{zero-none}
 use Rattle.run.specs.Column.{Turned, Moves, SortedBy, Sorted, Put5, Ready}
 
@@ -113,6 +116,7 @@ sorted-none f x size z =
       near = rw (z 0, z 1) (moves-none f 0);
       far = rw (z 2, z 3) (moves-none f 0);
       rest-below = λ s i. absurd (zero-none (z 4) s i);
+      rest-leads = λ s i. absurd (zero-none (z 4) s i);
       all = λ s l. absurd (omega arith);
     }
 
@@ -133,6 +137,7 @@ module _ (f : ℕ → ℕ) (n : ℕ) (x : List ℕ) (h : SortedBy f n x) where
         near = moves-keep f n (h .near);
         far = moves-keep f n (h .far);
         rest-below = λ s i. let l = h .rest-below s i in omega arith;
+        rest-leads = h .rest-leads;
         all = below-more (λ s. Has x 0 s ⊎ (Has x 2 s ⊎ Has x 4 s)) (h .all) (λ l. absurd (omega arith));
       }
 
@@ -160,6 +165,7 @@ module _ (f : ℕ → ℕ) (n : ℕ) (x : List ℕ) (h : SortedBy f n x) where
           near = rw (e₀, e₁) (moves-more f n (getD x 0 0) (getD x 1 0) d few small leads fits (h .near));
           far = rw (e 2 (omega arith), e 3 (omega arith)) (moves-keep f n (h .far));
           rest-below = λ s i. let l = h .rest-below s (rw (e 4 (omega arith)) at i) in omega arith;
+          rest-leads = λ s i. h .rest-leads s (rw (e 4 (omega arith)) at i);
           all = rw (e₀, e 2 (omega arith), e 4 (omega arith)) (below-more (λ s. In s (bitOr (getD x 0 0) (1 * 2 ^ n % 2 ^ 64)) ⊎ (Has x 2 s ⊎ Has x 4 s))
               (λ s l m. ⊎-elim (λ i. inl (keeps (getD x 0 0) s i)) inr (h .all s l m)) (λ m. inl (joins (getD x 0 0))));
         }
@@ -180,6 +186,7 @@ module _ (f : ℕ → ℕ) (n : ℕ) (x : List ℕ) (h : SortedBy f n x) where
           near = rw (f₀, f₁) (moves-keep f n (h .near));
           far = rw (e₂, e₃) (moves-more f n (getD x 2 0) (getD x 3 0) d few small leads fits (h .far));
           rest-below = λ s i. let l = h .rest-below s (rw f₄ at i) in omega arith;
+          rest-leads = λ s i. h .rest-leads s (rw f₄ at i);
           all = rw (f₀, e₂, f₄) (below-more (λ s. Has x 0 s ⊎ (In s (bitOr (getD x 2 0) (1 * 2 ^ n % 2 ^ 64)) ⊎ Has x 4 s))
               (λ s l m. ⊎-elim inl (⊎-elim (λ i. inr (inl (keeps (getD x 2 0) s i))) (λ i. inr (inr i))) (h .all s l m)) (λ m. inr (inl (joins (getD x 2 0)))));
         }
@@ -198,6 +205,8 @@ module _ (f : ℕ → ℕ) (n : ℕ) (x : List ℕ) (h : SortedBy f n x) where
           near = rw (f₀, f₁) (moves-keep f n (h .near));
           far = rw (f₂, f₃) (moves-keep f n (h .far));
           rest-below = λ s i. ⊎-elim (λ j. let l = h .rest-below s j in omega arith) (λ j. let k = in-one s n few .0 j in omega arith)
+              (in-or s (getD x 4 0) (1 * 2 ^ n % 2 ^ 64) .0 (rw e₄ at i));
+          rest-leads = λ s i. ⊎-elim (h .rest-leads s) (λ j. let k : s ≡ n = in-one s n few .0 j in rw k (let z : (n + d) % 64 < 64 = mod-lt (n + d) (lit< tt) in omega arith))
               (in-or s (getD x 4 0) (1 * 2 ^ n % 2 ^ 64) .0 (rw e₄ at i));
           all = rw (f₀, f₂, e₄) (below-more (λ s. Has x 0 s ⊎ (Has x 2 s ⊎ In s (bitOr (getD x 4 0) (1 * 2 ^ n % 2 ^ 64))))
               (λ s l m. ⊎-elim inl (⊎-elim (λ i. inr (inl i)) (λ i. inr (inr (keeps (getD x 4 0) s i)))) (h .all s l m)) (λ m. inr (inr (joins (getD x 4 0)))));
@@ -266,6 +275,10 @@ module _ (rows : List ℕ) (width k : ℕ) (columns : List ℕ) (h : Ready rows 
   pub ready-far : getD columns (5 * k + 3) 0 < 64
   ready-far = rw (at 3 (omega arith)) (h .sorted k l .far .small)
 
+  -- what is left of a set after the masks leads somewhere
+  pub ready-rest : (from s : ℕ) → In s (bitAnd from (getD columns (5 * k + 4) 0)) → byteAt rows width k s < 64
+  ready-rest from s i = h .sorted k l .rest-leads s (rw (at 4 (omega arith)) at (in-and s from (getD columns (5 * k + 4) 0) .0 i .1))
+
   module _ (from near far : ℕ) (few : from < 2 ^ 64) (a : (t : ℕ) → In t near ↔ Turned (bitAnd from (getD columns (5 * k) 0)) (getD columns (5 * k + 1) 0) t)
       (b : (t : ℕ) → In t far ↔ Turned (bitAnd from (getD columns (5 * k + 2) 0)) (getD columns (5 * k + 3) 0) t) where
     pub image-all : (rest : ℕ) → ((t : ℕ) → In t rest ↔ Image rows width k (bitAnd from (getD columns (5 * k + 4) 0)) t)
@@ -277,3 +290,34 @@ module _ (rows : List ℕ) (width k : ℕ) (columns : List ℕ) (h : Ready rows 
     pub image-turned : bitAnd from (getD columns (5 * k + 4) 0) ≡ 0 → (t : ℕ) → In t (bitOr near far) ↔ Image rows width k from t
     image-turned z t =
         rw (or-zero-r (bitOr near far)) at (image-all 0 (λ t. ((λ i. absurd (not-in-zero t i)), (λ m. absurd (zero-none z (m .source) (m .here))))) t)
+
+-- a state whose byte is a state has its row
+pub row-there : (rows : List ℕ) (width column s : ℕ) → byteAt rows width column s < 64 → s * width + column < length rows
+row-there rows width column s l =
+    ⊎-elim (λ k. k) (λ k. absurd (let z : byteAt rows width column s ≡ 255 = List·getD-eq-default rows 255 k in omega arith)) (lt-or-ge (s * width + column) (length rows))
+
+-- A WALK OVER STATES THAT ARE ALLOWED
+
+module _ (rows : List ℕ) (width column from left s : ℕ) (some : left ≡ 0 → ⊥) (least : Least left s) (within : (q : ℕ) → In q left → In q from)
+    (allowed : (q : ℕ) → In q from → byteAt rows width column q < 64) where
+  pub led-state : byteAt rows width column s < 64
+  led-state = allowed s (within s (least-in left s some least))
+
+  pub led-row : s * width + column < length rows
+  led-row = row-there rows width column s led-state
+
+  pub led-byte : getD rows (s * width + column) 0 < 64
+  led-byte = rw (getD-within rows (s * width + column) 0 255 led-row) led-state
+
+  pub led-within : (q : ℕ) → In q (bitAnd left (left - 1)) → In q from
+  led-within q i = within q (without-least left s some least q .0 i .0)
+
+  pub led-more : (out : ℕ) → Going (Leads rows width column) from left out
+      → Going (Leads rows width column) from (bitAnd left (left - 1)) (bitOr out (1 * 2 ^ getD rows (s * width + column) 0 % 2 ^ 64))
+  led-more out g =
+      going-more (Leads rows width column) from s (bitOr out (1 * 2 ^ getD rows (s * width + column) 0 % 2 ^ 64)) some least
+      (in-or-with (Leads rows width column s) out (1 * 2 ^ getD rows (s * width + column) 0 % 2 ^ 64) (λ q. (
+        (λ i. let e : q ≡ getD rows (s * width + column) 0 = in-one q (getD rows (s * width + column) 0) led-byte .0 i in
+            record { byte = sym (e ∙ getD-within rows (s * width + column) 0 255 led-row); state = rw e led-byte }),
+        (λ k. in-one q (getD rows (s * width + column) 0) led-byte .1 (sym (getD-within rows (s * width + column) 0 255 led-row ∙ k .byte))),
+      ))) g

@@ -26,6 +26,7 @@ pub record SortedBy (f : ℕ → ℕ) (n : ℕ) (x : List ℕ) : Type 0 where
   pub near : Moves f n (getD x 0 0) (getD x 1 0)
   pub far : Moves f n (getD x 2 0) (getD x 3 0)
   pub rest-below : (s : ℕ) → Has x 4 s → s < n
+  pub rest-leads : (s : ℕ) → Has x 4 s → f s < 64
   pub all : (s : ℕ) → s < n → f s < 64 → Has x 0 s ⊎ (Has x 2 s ⊎ Has x 4 s)
 
 abbrev pub Sorted : List ℕ → ℕ → ℕ → ℕ → List ℕ → Type 0

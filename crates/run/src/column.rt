@@ -7,7 +7,7 @@ ghost use mathlib.Core.Logic.{_↔_, _⊎_};
 ghost use Prim.Native.Nat.{ℕ, _+_, _*_, _%_, _≤_, _<_};
 ghost use lib.ListN.{length};
 ghost use Rattle.states.specs.In.{In};
-ghost use Rattle.states.specs.Rows.{Image};
+ghost use Rattle.states.specs.Rows.{byteAt, Image};
 ghost use Rattle.run.specs.Column.{Turned, Sorted, SortedTo, Put5, Ready};
 
 // The states of x, each d further, modulo 64.
@@ -104,6 +104,23 @@ pub(crate) fn ready(columns: &mut [u64; 160], rows: &[u8], width: u8)
     }
 }
 
+// Where the column leads from states that it allows, each by a look at its row.
+fn led(rows: &[u8], width: u8, column: u8, from: u64) -> u64
+    requires { ⌜ (width ≤ 32) × (column < width) ⌝ }
+    requires { ⌜ ((s : ℕ) → In s from → byteAt (now rows) width column s < 64) ⌝ }
+    ensures { λ r. ⌜ ((t : ℕ) → In t r ↔ Image (now (rows .entry)) width column from t) ⌝ }
+{
+    let mut out: u64 = 0;
+    let mut left = from;
+    while left != 0 {
+        let s = states::least(left);
+        left = left & (left - 1);
+        let t = rows[(s as usize) * (width as usize) + column as usize];
+        out = out | (1u64 << t);
+    }
+    out
+}
+
 // Where the column leads from the states of a set.
 pub(crate) fn image(columns: &[u64; 160], rows: &[u8], width: u8, column: u8, from: u64) -> u64
     requires { ⌜ (column < width) × (width ≤ 32) × Ready (now rows) width width (now columns) ⌝ }
@@ -116,5 +133,5 @@ pub(crate) fn image(columns: &[u64; 160], rows: &[u8], width: u8, column: u8, fr
     if rest == 0 {
         return near | far;
     }
-    near | far | states::image(rows, width, column, rest)
+    near | far | led(rows, width, column, rest)
 }
