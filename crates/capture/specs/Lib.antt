@@ -1,0 +1,5 @@
+pub mod Limits
+pub mod Refusals
+pub mod Capture
+pub mod Reading
+pub mod Importing

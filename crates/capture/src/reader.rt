@@ -1,0 +1,56 @@
+// A reader holds a capture's bytes and its place in them, and hands out one event at a time. `taken_at` does the work of each record, on
+// the slice and the number; over the struct there are few functions, and each takes it apart.
+ghost use mathlib.Core.Path.{_≡_};
+ghost use Prim.Native.Nat.{_+_, _<_, _^_};
+ghost use Rattle.capture.specs.Reading.{tested, taken-at, place-after};
+use super::answer::MOST_EVENTS;
+use super::answer::Refusal;
+use super::answer::Taken;
+use super::answer::after;
+use super::bytes;
+
+// The place is the next record's index.
+pub struct Reader<'a> {
+    pub capture: &'a [u8],
+    pub place: usize,
+}
+
+// The first test of record i that fails gives the answer: 16, 9, 7.
+fn tested(right: bool, few: bool, layout: bool, i: usize, byte: u8) -> Taken
+    requires { ⌜ i + 1 < 2 ^ 64 ⌝ }
+    ensures { λ r. ⌜ r ≡ tested right few layout i byte ⌝ }
+{
+    if right {} else {
+        return Taken::Refused(Refusal::Record(i));
+    }
+    if few {} else {
+        return Taken::Refused(Refusal::Events(i + 1));
+    }
+    if layout {
+        return Taken::Event(byte);
+    }
+    Taken::Refused(Refusal::Event(i))
+}
+
+// What record i gives: 15 comes first, also past the last byte.
+pub fn taken_at(capture: &[u8], i: usize) -> Taken
+    ensures { λ r. ⌜ r ≡ taken-at (now (capture .entry)) i ⌝ }
+{
+    if !bytes::headed(capture) {
+        return Taken::Refused(Refusal::Header);
+    }
+    let record = bytes::record(capture, i);
+    if record.len() == 0 {
+        return Taken::End;
+    }
+    let byte = bytes::octet(record);
+    let right = bytes::right(bytes::big(capture), record);
+    tested(right, i < MOST_EVENTS, bytes::of_layout(byte), i, byte)
+}
+
+// The place after record i.
+pub fn place_after(capture: &[u8], i: usize) -> usize
+    ensures { λ r. ⌜ r ≡ place-after (taken-at (now (capture .entry)) i) i ⌝ }
+{
+    after(taken_at(capture, i), i)
+}
