@@ -1,5 +1,6 @@
 // The bytes of a capture: its header, and its records as parts of it.
 ghost use mathlib.Core.Path.{_≡_};
+ghost use mathlib.Core.Bool.{_&&_};
 ghost use Prim.Native.Nat.{_<_, _≤_, min};
 ghost use lib.ListN.{getD};
 ghost use Rattle.capture.specs.Capture.{byte, two, four, two-at, four-at, big, headed, record-at, right, octet, of-layout, records};
@@ -69,6 +70,12 @@ fn four_at(big: bool, s: &[u8], i: usize) -> usize
     )
 }
 
+fn both(a: bool, b: bool) -> bool
+    ensures { λ r. ⌜ r ≡ (a && b) ⌝ }
+{
+    if a { b } else { false }
+}
+
 // Whether the capture has the most significant byte of its numbers first.
 pub(crate) fn big(capture: &[u8]) -> bool
     ensures { λ r. ⌜ r ≡ big (now (capture .entry)) ⌝ }
@@ -85,7 +92,10 @@ pub(crate) fn headed(capture: &[u8]) -> bool
     let major = two_at(big, capture, 4) == 2;
     let minor = two_at(big, capture, 6) == 4;
     let link = four_at(big, capture, 20) == LINK_TYPE;
-    HEADER <= capture.len() && magic && major && minor && link
+    both(
+        HEADER <= capture.len(),
+        both(magic, both(major, both(minor, link))),
+    )
 }
 
 // How many records there are. Bytes left after the last whole one are one more.
@@ -105,7 +115,7 @@ fn least(a: usize, b: usize) -> usize
 }
 
 // Record i: what there is of it, which past the last byte is nothing.
-pub(crate) fn record(capture: &[u8], i: usize) -> &[u8]
+pub(crate) fn record_at(capture: &[u8], i: usize) -> &[u8]
     ensures { λ r. ⌜ now r ≡ record-at (now (capture .entry)) i ⌝ }
 {
     let len = capture.len();
@@ -123,7 +133,7 @@ pub(crate) fn right(big: bool, part: &[u8]) -> bool
 {
     let captured = four_at(big, part, 8) == 1;
     let original = four_at(big, part, 12) == 1;
-    RECORD <= part.len() && captured && original
+    both(RECORD <= part.len(), both(captured, original))
 }
 
 pub(crate) fn octet(part: &[u8]) -> u8

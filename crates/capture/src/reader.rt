@@ -39,12 +39,12 @@ pub fn taken_at(capture: &[u8], i: usize) -> Taken
     if !bytes::headed(capture) {
         return Taken::Refused(Refusal::Header);
     }
-    let record = bytes::record(capture, i);
-    if record.len() == 0 {
+    let part = bytes::record_at(capture, i);
+    if part.len() == 0 {
         return Taken::End;
     }
-    let byte = bytes::octet(record);
-    let right = bytes::right(bytes::big(capture), record);
+    let byte = bytes::octet(part);
+    let right = bytes::right(bytes::big(capture), part);
     tested(right, i < MOST_EVENTS, bytes::of_layout(byte), i, byte)
 }
 

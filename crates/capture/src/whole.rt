@@ -17,7 +17,7 @@ fn right_records(capture: &[u8]) -> usize
     let n = bytes::records(capture);
     let mut k = 0;
     while k < n {
-        if !bytes::right(big, bytes::record(capture, k)) {
+        if !bytes::right(big, bytes::record_at(capture, k)) {
             return k;
         }
         k += 1;
@@ -32,7 +32,7 @@ fn layout_records(capture: &[u8]) -> usize
     let n = bytes::records(capture);
     let mut k = 0;
     while k < n {
-        if !bytes::of_layout(bytes::octet(bytes::record(capture, k))) {
+        if !bytes::of_layout(bytes::octet(bytes::record_at(capture, k))) {
             return k;
         }
         k += 1;
@@ -83,7 +83,7 @@ pub(crate) fn gather(capture: &[u8], events: &mut [u8])
     let n = bytes::records(capture);
     let mut k = 0;
     while k < n {
-        events[k] = bytes::octet(bytes::record(capture, k));
+        events[k] = bytes::octet(bytes::record_at(capture, k));
         k += 1;
     }
 }
