@@ -54,3 +54,36 @@ pub fn place_after(capture: &[u8], i: usize) -> usize
 {
     after(taken_at(capture, i), i)
 }
+
+// A reader at a place; at place 0 it is at the capture's start.
+pub fn open_at<'a>(capture: &'a [u8], place: usize) -> Reader<'a>
+    ensures { λ r. ⌜ (r .capture ≡ capture .entry) × (r .place ≡ place) ⌝ }
+{
+    Reader { capture, place }
+}
+
+// What the reader hands out next. It stays where it is.
+pub fn next<'a>(r: Reader<'a>) -> Taken
+    ensures { λ t. ⌜ t ≡ taken-at (now (r .entry .capture)) (r .entry .place) ⌝ }
+{
+    taken_at(r.capture, r.place)
+}
+
+// Hands out one event and moves on. At the end it stays there, and a refusal leaves it where it is.
+pub fn take<'s, 'a>(r: &'s mut Reader<'a>) -> Taken
+    ensures { λ t. ⌜ (t ≡ taken-at (now (now (r .entry) .capture)) (now (r .entry) .place)) × ((now (r .exit) .capture ≡ now (r .entry) .capture) × (now (r .exit) .place ≡ place-after (taken-at (now (now (r .entry) .capture)) (now (r .entry) .place)) (now (r .entry) .place))) ⌝ }
+{
+    let s = r.capture;
+    let at = r.place;
+    let got = taken_at(s, at);
+    let to = place_after(s, at);
+    r.place = to;
+    got
+}
+
+// What a reader at place i hands out. Its parameters are plain, so whoever calls it has no struct to take apart.
+pub fn event_at(capture: &[u8], i: usize) -> Taken
+    ensures { λ r. ⌜ r ≡ taken-at (now (capture .entry)) i ⌝ }
+{
+    next(open_at(capture, i))
+}
