@@ -1,3 +1,4 @@
 pub mod Records
 pub mod Passing
 pub mod Takes
+pub mod Imports
