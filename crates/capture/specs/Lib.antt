@@ -3,3 +3,5 @@ pub mod Refusals
 pub mod Capture
 pub mod Reading
 pub mod Importing
+pub mod Laws
+pub mod Judging
