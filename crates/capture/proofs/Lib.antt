@@ -1,4 +1,9 @@
-pub mod Records
-pub mod Passing
-pub mod Takes
-pub mod Imports
+pub mod Laws
+pub mod Judging
+mod Records
+mod Passing
+mod Fields
+mod Takes
+mod Handing
+mod Imports
+mod Importing
