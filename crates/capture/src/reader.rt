@@ -33,7 +33,7 @@ fn tested(right: bool, few: bool, layout: bool, i: usize, byte: u8) -> Taken
 }
 
 // What record i gives: 15 comes first, also past the last byte.
-pub fn taken_at(capture: &[u8], i: usize) -> Taken
+pub(crate) fn taken_at(capture: &[u8], i: usize) -> Taken
     ensures { λ r. ⌜ r ≡ taken-at (now (capture .entry)) i ⌝ }
 {
     if !bytes::headed(capture) {
@@ -46,13 +46,6 @@ pub fn taken_at(capture: &[u8], i: usize) -> Taken
     let byte = bytes::octet(part);
     let right = bytes::right(bytes::big(capture), part);
     tested(right, i < MOST_EVENTS, bytes::of_layout(byte), i, byte)
-}
-
-// The place after record i.
-pub fn place_after(capture: &[u8], i: usize) -> usize
-    ensures { λ r. ⌜ r ≡ place-after (taken-at (now (capture .entry)) i) i ⌝ }
-{
-    after(taken_at(capture, i), i)
 }
 
 // A reader at a place; at place 0 it is at the capture's start.
@@ -76,7 +69,7 @@ pub fn take<'s, 'a>(r: &'s mut Reader<'a>) -> Taken
     let s = r.capture;
     let at = r.place;
     let got = taken_at(s, at);
-    let to = place_after(s, at);
+    let to = after(got, at);
     r.place = to;
     got
 }
