@@ -109,11 +109,12 @@ def outcome(data, room):
 
 
 def said(data, place):
+    """What the reader says at a place, and its place then: an event is passed, and nothing else."""
     try:
         event = handed_out(data, place)
     except Refused as refusal:
-        return f"refused {refusal.text}"
-    return "end" if event is None else f"event {event}"
+        return f"refused {refusal.text} then {place}"
+    return f"end then {place}" if event is None else f"event {event} then {place + 1}"
 
 
 def lines(name, data):

@@ -8,6 +8,7 @@ use Rattle.model.specs.Limits.{most-events}
 use Rattle.capture.specs.Capture.{headed, record-at, right-at, octet-at, layout-at}
 use Rattle.capture.specs.declared.answer.Refusal.{Refusal}
 use Rattle.capture.specs.declared.answer.Refusal.the-variants as refusal
+use Rattle.capture.specs.declared.answer.Handed.{Handed}
 use Rattle.capture.specs.declared.answer.Taken.{Taken}
 use Rattle.capture.specs.declared.answer.Taken.the-variants.{Event, End, Refused}
 
@@ -32,3 +33,7 @@ abbrev pub place-after : Taken → ℕ → ℕ
 place-after (Event byte) i = i + 1
 place-after End i = i
 place-after (Refused r) i = i
+
+-- What it hands out, and its place then.
+abbrev pub handed-at : List ℕ → ℕ → Handed
+handed-at s i = record { taken = taken-at s i; place = place-after (taken-at s i) i }

@@ -31,6 +31,12 @@ pub enum Taken {
     Refused(Refusal),
 }
 
+// The same, with the reader's place after it.
+pub struct Handed {
+    pub taken: Taken,
+    pub place: usize,
+}
+
 // What a whole import answers: how many events it wrote, or why it wrote nothing.
 pub enum Imported {
     Good(usize),

@@ -8,6 +8,7 @@ mod bytes;
 pub mod reader;
 mod whole;
 
+pub use answer::Handed;
 pub use answer::Imported;
 pub use answer::Refusal;
 pub use answer::Taken;

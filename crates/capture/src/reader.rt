@@ -2,7 +2,8 @@
 // the slice and the number; over the struct there are few functions, and each takes it apart.
 ghost use mathlib.Core.Path.{_≡_};
 ghost use Prim.Native.Nat.{_+_, _<_, _^_};
-ghost use Rattle.capture.specs.Reading.{tested, taken-at, place-after};
+ghost use Rattle.capture.specs.Reading.{tested, taken-at, place-after, handed-at};
+use super::answer::Handed;
 use super::answer::MOST_EVENTS;
 use super::answer::Refusal;
 use super::answer::Taken;
@@ -74,9 +75,20 @@ pub fn take<'s, 'a>(r: &'s mut Reader<'a>) -> Taken
     got
 }
 
-// What a reader at place i hands out. Its parameters are plain, so whoever calls it has no struct to take apart.
-pub fn event_at(capture: &[u8], i: usize) -> Taken
-    ensures { λ r. ⌜ r ≡ taken-at (now (capture .entry)) i ⌝ }
+// What a reader at a place hands out.
+fn event_at(capture: &[u8], place: usize) -> Taken
+    ensures { λ r. ⌜ r ≡ taken-at (now (capture .entry)) place ⌝ }
 {
-    next(open_at(capture, i))
+    next(open_at(capture, place))
+}
+
+// The same, with the place that it then has. The parameters are plain, so whoever calls this has no struct to take apart.
+pub fn hand(capture: &[u8], place: usize) -> Handed
+    ensures { λ h. ⌜ h ≡ handed-at (now (capture .entry)) place ⌝ }
+{
+    let taken = event_at(capture, place);
+    Handed {
+        taken,
+        place: after(taken, place),
+    }
 }

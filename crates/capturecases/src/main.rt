@@ -2,6 +2,7 @@
 // length at which number 10 may come, then what the reader hands out, call by call, and what it says at some places by itself. A line
 // that tells of a buffer ends with its digest, so that every byte of it shows.
 ghost use Prim.Native.Nat.{_≤_};
+use capture::Handed;
 use capture::Imported;
 use capture::Taken;
 use capture::reader;
@@ -114,26 +115,31 @@ fn event(taken: Taken) -> u8 {
     }
 }
 
-fn said(taken: Taken) {
+fn said(handed: Handed) {
+    let taken = handed.taken;
     match taken {
         Taken::Event(byte) => figure(b"event", byte as u64),
         Taken::End => write(b" end"),
         Taken::Refused(r) => refused(capture::tell(r)),
     }
+    figure(b"then", handed.place as u64);
 }
 
-// How many events the reader hands out, one a call, into this buffer.
+// How many events the reader hands out, one a call, into this buffer. Each call is at the place that the one before left.
 fn called(bytes: &[u8], events: &mut [u8]) -> usize {
+    let mut place = 0;
     let mut k = 0;
     while k < events.len() {
-        let taken = reader::event_at(bytes, k);
+        let handed = reader::hand(bytes, place);
+        let taken = handed.taken;
+        place = handed.place;
         if !is_event(taken) {
-            return k;
+            return place;
         }
         events[k] = event(taken);
         k += 1;
     }
-    k
+    place
 }
 
 fn read(name: &[u8], bytes: &[u8]) {
@@ -142,14 +148,14 @@ fn read(name: &[u8], bytes: &[u8]) {
     write(name);
     figure(b"read", n as u64);
     figure(b"digest", digest(&events));
-    said(reader::event_at(bytes, n));
+    said(reader::hand(bytes, n));
     write(b"\n");
 }
 
 fn at(name: &[u8], bytes: &[u8], place: usize) {
     write(name);
     figure(b"at", place as u64);
-    said(reader::event_at(bytes, place));
+    said(reader::hand(bytes, place));
     write(b"\n");
 }
 

@@ -3,22 +3,21 @@ use native.Mathlib.Omega.{arith}
 use mathlib.Core.Path.{_≡_, refl}
 use Prim.Native.Nat.{_-_, _≤_}
 use lib.ListN.{length, length-set}
-use mathlib.Core.Path.{_≡_}
 use borrow.Author.Needs.{needs}
 use Rattle.capturecases.proofs.called.Statement.{statement}
 use Rattle.capturecases.proofs.called.Tie as tie
 
 abbrev Inv-loop : tie.InvT-loop
-Inv-loop bytes events₀ k₀ events k = (k ≤ length events) × (length events ≡ length events₀)
+Inv-loop bytes events₀ place₀ k₀ events place k = (k ≤ length events) × (length events ≡ length events₀)
 
 abbrev μ-loop : tie.MeasureT-loop
-μ-loop bytes events₀ k₀ events k = length events₀ - k
+μ-loop bytes events₀ place₀ k₀ events place k = length events₀ - k
 
 loop-holds : tie.Need-loop-holds Inv-loop μ-loop
 loop-holds c = (search needs, refl)
 
-event-at-requires : tie.Need-event-at-requires Inv-loop μ-loop
-event-at-requires c κs = search needs
+hand-requires : tie.Need-hand-requires Inv-loop μ-loop
+hand-requires c κs = search needs
 
 is-event-requires : tie.Need-is-event-requires Inv-loop μ-loop
 is-event-requires c κs = search needs
@@ -57,7 +56,7 @@ called-spec =
     Inv-loop
     μ-loop
     loop-holds
-    event-at-requires
+    hand-requires
     is-event-requires
     same-length
     returns
