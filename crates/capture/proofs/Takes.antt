@@ -8,7 +8,7 @@ use lib.ListN.{length}
 use borrow.Author.Tests.{eq-eqb, ne-eqb}
 use Rattle.model.specs.Limits.{most-events}
 use Rattle.capture.specs.Capture.{headed, big, record-at, right, right-at, octet, octet-at, of-layout, layout-at}
-use Rattle.capture.specs.Reading.{must, tested, taken-at, place-after, handed-at}
+use Rattle.capture.specs.Reading.{must, tested, taken-at, place-after}
 use Rattle.capture.specs.declared.answer.Refusal.{Refusal}
 use Rattle.capture.specs.declared.answer.Refusal.the-variants as refusal
 use Rattle.capture.specs.declared.answer.Taken.{Taken}
@@ -63,10 +63,3 @@ place-kept s i = go (ltb i most-events)
         ≡ place-after (must (headed s) refusal.Header (cond (eqb (length (record-at s i)) 0) End (tested (right-at s i) b (layout-at s i) i (octet-at s i)))) i
     go true = refl
     go false = sym (kept (headed s) (eqb (length (record-at s i)) 0) (right-at s i) (layout-at s i) i (octet-at s i))
-
--- what is handed out, with the place that the answer leads to
-pub handed-by : (s : List ℕ) (i : ℕ) (t : Taken) (m : ℕ) → t ≡ taken-at s i → m ≡ cond (ltb i most-events) (place-after t i) i
-    → record { taken = t; place = m } ≡ handed-at s i
-handed-by s i t m e f =
-    let g : m ≡ place-after (taken-at s i) i = f ∙ ap (λ (x : Taken). cond (ltb i most-events) (place-after x i) i) e ∙ place-kept s i in
-    rw (e, g)

@@ -35,5 +35,8 @@ place-after End i = i
 place-after (Refused r) i = i
 
 -- What it hands out, and its place then.
+abbrev pub handed : Taken → ℕ → Handed
+handed t i = record { taken = t; place = i }
+
 abbrev pub handed-at : List ℕ → ℕ → Handed
-handed-at s i = record { taken = taken-at s i; place = place-after (taken-at s i) i }
+handed-at s i = handed (taken-at s i) (place-after (taken-at s i) i)

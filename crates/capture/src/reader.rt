@@ -2,7 +2,7 @@
 // the slice and the number; over the struct there are few functions, and each takes it apart.
 ghost use mathlib.Core.Path.{_≡_};
 ghost use Prim.Native.Nat.{_+_, _<_, _^_};
-ghost use Rattle.capture.specs.Reading.{tested, taken-at, place-after, handed-at};
+ghost use Rattle.capture.specs.Reading.{tested, taken-at, place-after, handed, handed-at};
 use super::answer::Handed;
 use super::answer::MOST_EVENTS;
 use super::answer::Refusal;
@@ -56,13 +56,6 @@ pub fn open_at<'a>(capture: &'a [u8], place: usize) -> Reader<'a>
     Reader { capture, place }
 }
 
-// What the reader hands out next. It stays where it is.
-pub fn next<'a>(r: Reader<'a>) -> Taken
-    ensures { λ t. ⌜ t ≡ taken-at (now (r .entry .capture)) (r .entry .place) ⌝ }
-{
-    taken_at(r.capture, r.place)
-}
-
 // Hands out one event and moves on. At the end it stays there, and a refusal leaves it where it is.
 pub fn take<'s, 'a>(r: &'s mut Reader<'a>) -> Taken
     ensures { λ t. ⌜ (t ≡ taken-at (now (now (r .entry) .capture)) (now (r .entry) .place)) × ((now (r .exit) .capture ≡ now (r .entry) .capture) × (now (r .exit) .place ≡ place-after (taken-at (now (now (r .entry) .capture)) (now (r .entry) .place)) (now (r .entry) .place))) ⌝ }
@@ -75,20 +68,19 @@ pub fn take<'s, 'a>(r: &'s mut Reader<'a>) -> Taken
     got
 }
 
-// What a reader at a place hands out.
-fn event_at(capture: &[u8], place: usize) -> Taken
-    ensures { λ r. ⌜ r ≡ taken-at (now (capture .entry)) place ⌝ }
+fn handed(taken: Taken, place: usize) -> Handed
+    ensures { λ h. ⌜ h ≡ handed taken place ⌝ }
 {
-    next(open_at(capture, place))
+    Handed { taken, place }
 }
 
-// The same, with the place that it then has. The parameters are plain, so whoever calls this has no struct to take apart.
+// One call of a reader at a place: what it hands out, and its place then. The parameters are plain, so whoever calls this has no struct to
+// take apart.
 pub fn hand(capture: &[u8], place: usize) -> Handed
     ensures { λ h. ⌜ h ≡ handed-at (now (capture .entry)) place ⌝ }
 {
-    let taken = event_at(capture, place);
-    Handed {
-        taken,
-        place: after(taken, place),
-    }
+    let mut r = open_at(capture, place);
+    let taken = take(&mut r);
+    let then = r.place;
+    handed(taken, then)
 }
