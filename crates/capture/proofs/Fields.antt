@@ -1,26 +1,23 @@
 -- What the tests of the header, of a record and of an octet say. Assumes nothing.
 use mathlib.Core.Path.{_≡_, refl, sym, ap, _∙_}
-use mathlib.Core.Bool.{Bool, true, false, _&&_, _||_}
-use mathlib.Core.List.{List}
+use mathlib.Core.Bool.{Bool, true, false, _||_}
 use mathlib.Core.Logic.{_⊎_, inl, inr, ⊎-elim}
 use Prim.Native.Nat.{ℕ, _+_, _-_, _≤_, _<_}
-use native.Mathlib.Decide.{decLt}
 use native.Mathlib.Omega.{arith}
 use lib.Dec.{eqb, ltb, leb}
 use lib.ListN.{length}
 use borrow.Author.Tests.{eqb-true, leb-true, ltb-true, eq-eqb, le-leb, lt-ltb, le-ltb}
 use Rattle.model.specs.Limits.{most-inputs, most-outputs}
-use Rattle.model.specs.Model.{event, input, output}
+use Rattle.model.specs.Model.{event}
 use Rattle.model.proofs.Demands.{event-bytes}
 use Rattle.table.specs.Bytes.{symbol-of}
 use Rattle.table.specs.declared.answer.Symbol.{Symbol}
 use Rattle.table.specs.declared.answer.Symbol.the-variants.{Input, Output, Invalid}
-use Rattle.table.specs.Laws.{Means}
-use Rattle.table.proofs.Checks.{clash, both}
+use Rattle.table.proofs.Checks.{both}
 use Rattle.table.proofs.Laws.{symbol-means, given-means}
 use Rattle.capture.specs.Limits.{header-size, record-size, magic, version-major, version-minor, link-type}
-use Rattle.capture.specs.Capture.{two, four, two-at, four-at, big, headed, right, of-layout}
-use Rattle.capture.specs.Laws.{Reversed, GoodHeader, HeaderPasses, OrderTold, GoodRecord, RecordPasses, LayoutIs, LayoutValid}
+use Rattle.capture.specs.Capture.{two-at, four-at, big, headed, right, of-layout}
+use Rattle.capture.specs.Laws.{Reversed, HeaderPasses, OrderTold, RecordPasses, LayoutIs, LayoutValid}
 
 pub reversed : Reversed
 reversed a b c d = (omega arith, omega arith)

@@ -6,15 +6,13 @@ use Prim.Native.Nat.{ℕ, zero, suc, _+_, _≤_, _<_}
 use native.Mathlib.Numerals.{add-one}
 use native.Mathlib.Decide.{decLt}
 use native.Mathlib.Omega.{arith}
-use lib.Dec.{ltb}
-use lib.ListN.{length}
 use lib.Seq.{append-snoc}
 use borrow.Author.Tests.{lt-ltb, le-ltb}
 use Rattle.model.specs.Limits.{most-events}
 use Rattle.table.proofs.Checks.{clash}
-use Rattle.capture.specs.Capture.{headed, records, right-at, octet-at, layout-at, octets, events-of, GoodCapture}
+use Rattle.capture.specs.Capture.{headed, records, right-at, octet-at, layout-at, octets}
 use Rattle.capture.specs.Reading.{tested, taken-at, place-after}
-use Rattle.capture.specs.Laws.{Takes, unheaded, ended, wrong, over, strange, handed, TakesExactly, HandedOut, no-more, call, InOrder, CalledToItsEnd, ExactlyTheEvents, ComesToItsEnd, LeftThere}
+use Rattle.capture.specs.Laws.{Takes, unheaded, ended, wrong, over, strange, handed, TakesExactly, HandedOut, no-more, call, InOrder, ExactlyTheEvents, ComesToItsEnd, LeftThere}
 use Rattle.capture.specs.declared.answer.Refusal.the-variants as refusal
 use Rattle.capture.specs.declared.answer.Taken.{Taken}
 use Rattle.capture.specs.declared.answer.Taken.the-variants as taken

@@ -2,17 +2,17 @@
 use mathlib.Core.Path.{_≡_, refl, sym, ap, _∙_, subst}
 use mathlib.Core.Bool.{Bool, true, false}
 use mathlib.Core.List.{List}
-use Prim.Native.Nat.{ℕ, _+_, _≤_, _<_}
+use Prim.Native.Nat.{ℕ, _≤_, _<_}
 use native.Mathlib.Decide.{decLt, decLe}
 use native.Mathlib.Omega.{arith}
-use lib.ListN.{length, take, drop}
+use lib.ListN.{length, drop}
 use lib.Seq.{take-append-seam, drop-append-seam}
 use borrow.Author.Tests.{eq-eqb, ne-eqb, le-leb, lt-leb}
 use Rattle.model.specs.Limits.{most-events}
 use Rattle.capture.specs.Capture.{headed, records, right-at, layout-at, events-of, GoodCapture}
 use Rattle.capture.specs.Refusals.{is-good}
-use Rattle.capture.specs.Importing.{right-records, layout-records, front, verdict, imported, after, Imports}
-use Rattle.capture.specs.Laws.{Imported-as, unheaded, wrong, over, strange, short, good, ImportsExactly, OneImport, NothingWritten, WhatIsWritten, CalledToItsEnd, ReadAsImported, ImportedAsRead}
+use Rattle.capture.specs.Importing.{right-records, layout-records, verdict, imported, after, Imports}
+use Rattle.capture.specs.Laws.{Imported-as, unheaded, wrong, over, strange, short, good, ImportsExactly, OneImport, NothingWritten, WhatIsWritten, ReadAsImported, ImportedAsRead}
 use Rattle.capture.specs.declared.answer.Refusal.the-variants as refusal
 use Rattle.capture.specs.declared.answer.Imported.{Imported}
 use Rattle.capture.specs.declared.answer.Imported.the-variants.{Good, Refused}

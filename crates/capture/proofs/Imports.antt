@@ -1,23 +1,19 @@
 -- Laws of a whole import: when it is good, what it refuses, and what it leaves. Assumes nothing.
-use mathlib.Core.Path.{_≡_, refl, sym, ap, _∙_}
+use mathlib.Core.Path.{_≡_, refl, sym, _∙_}
 use mathlib.Core.Bool.{Bool, true, false}
 use mathlib.Core.List.{List}
-use mathlib.Core.Logic.{_↔_}
-use Prim.Native.Nat.{ℕ, _≤_, _<_}
-use native.Mathlib.Omega.{arith}
+use Prim.Native.Nat.{ℕ, _≤_}
 use lib.Dec.{eqb, leb}
-use lib.ListN.{length}
-use borrow.Author.Tests.{eqb-true, eqb-false, leb-true, leb-false, eq-eqb, ne-eqb, le-leb, lt-leb}
+use borrow.Author.Tests.{eqb-true, leb-true, eq-eqb, le-leb}
 use Rattle.model.specs.Limits.{most-events}
 use Rattle.table.proofs.Checks.{clash}
-use Rattle.capture.specs.Capture.{headed, records, right-at, layout-at, events-of, GoodCapture}
+use Rattle.capture.specs.Capture.{headed, records, right-at, layout-at, GoodCapture}
 use Rattle.capture.specs.Refusals.{is-good}
-use Rattle.capture.specs.Importing.{must, passing, right-records, layout-records, front, verdict, imported, after}
+use Rattle.capture.specs.Importing.{must, right-records, layout-records, front, verdict, imported, after}
 use Rattle.capture.specs.declared.answer.Refusal.{Refusal}
-use Rattle.capture.specs.declared.answer.Refusal.the-variants as refusal
 use Rattle.capture.specs.declared.answer.Imported.{Imported}
 use Rattle.capture.specs.declared.answer.Imported.the-variants.{Good, Refused}
-use Rattle.capture.proofs.Passing.{passing-all, passing-known, all-pass}
+use Rattle.capture.proofs.Passing.{passing-all, all-pass}
 
 -- THE BUFFER
 

@@ -1,22 +1,18 @@
 -- Every statement of specs/Judging.antt, proved: by the monitor's published laws alone. Assumes nothing.
-use mathlib.Core.Path.{_≡_, refl, sym, ap, _∙_, subst}
+use mathlib.Core.Path.{_≡_, refl, ap, subst}
 use mathlib.Core.List.{List}
-use Prim.Native.Nat.{ℕ, _<_}
+use Prim.Native.Nat.{ℕ}
 use native.Mathlib.Omega.{arith}
-use lib.ListN.{length, take, getD}
-use Rattle.model.specs.Limits.{most-inputs, most-outputs}
-use Rattle.table.specs.Bytes.{table-of, symbol-of}
-use Rattle.table.specs.declared.answer.Symbol.the-variants.{Invalid}
+use lib.ListN.{take, getD}
+use Rattle.table.specs.Bytes.{table-of}
 use Rattle.table.specs.declared.answer.Test.the-variants.{Passed, Refused}
 use Rattle.table.proofs.Checks.{clash}
-use Rattle.monitor.specs.declared.session.Session.{Session}
 use Rattle.monitor.specs.declared.session.Flag.{Flag}
 use Rattle.monitor.specs.declared.run.Ran.{Ran}
-use Rattle.monitor.specs.Open.{opening, begun}
-use Rattle.monitor.specs.Laws.{Follows, FedAll}
+use Rattle.monitor.specs.Laws.{Follows}
 use Rattle.monitor.specs.Run.{RunTo, Runs, refused, ran}
 use Rattle.monitor.proofs.Laws.{plausible-after-feeding}
-use Rattle.capture.specs.Capture.{octets, events-of, GoodCapture}
+use Rattle.capture.specs.Capture.{events-of}
 use Rattle.capture.specs.Judging.{RunAsImported, FedAsImported, FedAsHandedOut, FedAsRead, TraceTaken}
 use Rattle.capture.proofs.Laws.{what-is-written, in-order, exactly-the-events, all-of-layout, layout-valid, one-each}
 

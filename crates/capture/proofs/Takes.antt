@@ -2,17 +2,16 @@
 use mathlib.Core.Path.{_≡_, refl, sym, ap, _∙_}
 use mathlib.Core.Bool.{Bool, true, false, cond}
 use mathlib.Core.List.{List}
-use Prim.Native.Nat.{ℕ, _+_, _≤_, _<_}
+use Prim.Native.Nat.{ℕ}
 use lib.Dec.{eqb, ltb}
 use lib.ListN.{length}
 use borrow.Author.Tests.{eq-eqb, ne-eqb}
 use Rattle.model.specs.Limits.{most-events}
 use Rattle.capture.specs.Capture.{headed, big, record-at, right, right-at, octet, octet-at, of-layout, layout-at}
 use Rattle.capture.specs.Reading.{must, tested, taken-at, place-after}
-use Rattle.capture.specs.declared.answer.Refusal.{Refusal}
 use Rattle.capture.specs.declared.answer.Refusal.the-variants as refusal
 use Rattle.capture.specs.declared.answer.Taken.{Taken}
-use Rattle.capture.specs.declared.answer.Taken.the-variants.{Event, End, Refused}
+use Rattle.capture.specs.declared.answer.Taken.the-variants.{End, Refused}
 
 module _ (s : List ℕ) (i : ℕ) where
   -- 15 comes first

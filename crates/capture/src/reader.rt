@@ -21,10 +21,10 @@ fn tested(right: bool, few: bool, layout: bool, i: usize, byte: u8) -> Taken
     requires { ⌜ i + 1 < 2 ^ 64 ⌝ }
     ensures { λ r. ⌜ r ≡ tested right few layout i byte ⌝ }
 {
-    if right {} else {
+    if !right {
         return Taken::Refused(Refusal::Record(i));
     }
-    if few {} else {
+    if !few {
         return Taken::Refused(Refusal::Events(i + 1));
     }
     if layout {

@@ -44,7 +44,7 @@ fn layout_records(capture: &[u8]) -> usize
 fn verdict(head: bool, n: usize, right: usize, layout: usize, room: usize) -> Imported
     ensures { λ r. ⌜ r ≡ verdict head n right layout room ⌝ }
 {
-    if head {} else {
+    if !head {
         return Imported::Refused(Refusal::Header);
     }
     if right != n {

@@ -1,6 +1,5 @@
 -- `main` ends: each turn takes one argument more. Assumes nothing.
 use Prim.Native.Nat.{_-_}
-use native.Mathlib.Omega.{arith}
 use borrow.Author.Needs.{needs}
 use Rattle.capturecases.proofs.main.Statement.{statement}
 use Rattle.capturecases.proofs.main.Tie as tie

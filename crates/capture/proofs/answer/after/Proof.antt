@@ -1,6 +1,5 @@
 -- `answer::after` meets its contract, arm by arm. Assumes nothing.
 use borrow.Author.Tests.{lt-ltb, le-ltb}
-use borrow.Author.Tests.{eq-eqb, ne-eqb, lt-ltb, le-ltb, le-leb, lt-leb}
 use borrow.Author.Needs.{needs}
 use Rattle.capture.proofs.answer.after.Statement.{statement}
 use Rattle.capture.proofs.answer.after.Tie as tie

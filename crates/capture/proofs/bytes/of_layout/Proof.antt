@@ -2,7 +2,6 @@
 use native.Mathlib.Omega.{arith}
 use borrow.Author.Tests.{lt-ltb, le-ltb, le-leb, lt-leb}
 use Rattle.capture.specs.Capture.{of-layout}
-use borrow.Author.Tests.{eq-eqb, ne-eqb, lt-ltb, le-ltb, le-leb, lt-leb}
 use Rattle.capture.proofs.bytes.of_layout.Statement.{statement}
 use Rattle.capture.proofs.bytes.of_layout.Tie as tie
 

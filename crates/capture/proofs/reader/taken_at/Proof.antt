@@ -5,8 +5,6 @@ use native.Mathlib.Omega.{arith}
 use borrow.Author.Tests.{not-true, not-false}
 use Rattle.capture.proofs.Records.{begins}
 use Rattle.capture.proofs.Takes.{unheaded, part-ended, part-tested}
-use borrow.Author.Tests.{eq-eqb, ne-eqb, not-true, not-false}
-use Rattle.capture.specs.Reading.{taken-at}
 use borrow.Author.Needs.{needs}
 use Rattle.capture.proofs.reader.taken_at.Statement.{statement}
 use Rattle.capture.proofs.reader.taken_at.Tie as tie

@@ -1,10 +1,9 @@
 -- `whole::layout_records` meets its contract. The octets passed are events. Assumes nothing.
-use mathlib.Core.Path.{_≡_, sym, ap, _∙_}
+use mathlib.Core.Path.{_≡_, sym, _∙_}
 use Prim.Native.Nat.{_-_, _≤_}
 use native.Mathlib.Omega.{arith}
 use borrow.Author.Tests.{not-true, not-false}
 use Rattle.capture.specs.Capture.{records, layout-at}
-use Rattle.capture.specs.Importing.{passing}
 use Rattle.capture.proofs.Passing.{Pass, pass-more, passing-all, passing-to}
 use Rattle.capture.proofs.Records.{layout-of}
 use borrow.Author.Needs.{needs}
