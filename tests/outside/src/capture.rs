@@ -239,3 +239,45 @@ pub fn hand(capture: &[u8], place: u64, wrong: Wrong) -> [u64; 5] {
         }
     }
 }
+
+#[cfg(test)]
+mod tests {
+    use super::*;
+
+    /// What `text2pcap -F pcap -l 147` writes of a poll and a report, byte for byte, and the same in the other order.
+    const LEAST: [u8; 58] = [
+        0xd4, 0xc3, 0xb2, 0xa1, 2, 0, 4, 0, 0, 0, 0, 0, 0, 0, 0, 0, 0, 0, 4, 0, 0x93, 0, 0, 0, 0xc0, 0x0a, 0xe8, 0x6a,
+        0, 0, 0, 0, 1, 0, 0, 0, 1, 0, 0, 0, 0x00, 0xc0, 0x0a, 0xe8, 0x6a, 0xe8, 3, 0, 0, 1, 0, 0, 0, 1, 0, 0, 0, 0x80,
+    ];
+    const MOST: [u8; 58] = [
+        0xa1, 0xb2, 0xc3, 0xd4, 0, 2, 0, 4, 0, 0, 0, 0, 0, 0, 0, 0, 0, 4, 0, 0, 0, 0, 0, 0x93, 0x6a, 0xe8, 0x0a, 0xc0,
+        0, 0, 0, 0, 0, 0, 0, 1, 0, 0, 0, 1, 0x00, 0x6a, 0xe8, 0x0a, 0xc0, 0, 0, 3, 0xe8, 0, 0, 0, 1, 0, 0, 0, 1, 0x80,
+    ];
+
+    #[test]
+    fn both_orders_hold_the_same() {
+        for capture in [LEAST, MOST] {
+            let imported = import(&capture, 4, Wrong::Nothing);
+            assert_eq!(imported, Imported { told: [0, 0, 2], events: vec![0, 128, UNTOUCHED, UNTOUCHED] });
+            assert_eq!(hand(&capture, 0, Wrong::Nothing), [0, 0, 1, 0, 1]);
+            assert_eq!(hand(&capture, 1, Wrong::Nothing), [0, 0, 1, 128, 2]);
+            assert_eq!(hand(&capture, 2, Wrong::Nothing), [0, 0, 0, 0, 2]);
+        }
+    }
+
+    #[test]
+    fn refusals_have_their_places() {
+        let told = |capture: &[u8], room: usize| import(capture, room, Wrong::Nothing).told;
+        assert_eq!(told(&LEAST[..23], 4), [15, 0, 0]);
+        assert_eq!(told(&LEAST[..24], 0), [0, 0, 0]);
+        assert_eq!(told(&LEAST[..57], 4), [16, 1, 0]);
+        assert_eq!(told(&LEAST, 1), [10, 2, 0]);
+        let mut strange = LEAST;
+        strange[40] = 16;
+        assert_eq!(told(&strange, 4), [7, 0, 0]);
+        strange[49] = 2;
+        assert_eq!(told(&strange, 4), [16, 1, 0]);
+        assert_eq!(hand(&strange, 0, Wrong::Nothing), [7, 0, 0, 0, 0]);
+        assert_eq!(hand(&strange, 1, Wrong::Nothing), [16, 1, 0, 0, 1]);
+    }
+}
