@@ -1,4 +1,4 @@
-// Serves requests for the functions of the crate `doors`, so that a program in another language can try them: requests on standard
+// Serves requests for the functions of the crates `doors` and `capturedoors`, so that a program in another language can try them: requests on standard
 // input, answers on standard output, until the input ends.
 //
 // All numbers are 8 bytes, unsigned, least byte first. A request is its number and then:
@@ -12,6 +12,10 @@
 //            answer: 11 results, row_room bytes, event_room bytes
 //   5 list   file_len, file
 //            answer: text_len, text, outcome
+//   6 import capture_len, capture, event_room
+//            answer: 3 results, event_room bytes
+//   7 hand   capture_len, capture, place
+//            answer: 5 results
 // Memory that a function is to write to holds the byte 0xAA throughout before, so that what was left alone can be told.
 //
 // Input that ends inside a request ends the program with status 1; a request that is none of these, a length above 64 MiB, memory that
@@ -42,8 +46,11 @@ _Bool rillmoth_run(const u8 *rows, size_t rows_len, size_t states, size_t inputs
                    const u8 *trace, size_t trace_len, u8 *out, size_t out_len, u64 *told, size_t told_len);
 _Bool rillmoth_read(const u8 *file, size_t file_len, u8 *rows, size_t rows_len, u8 *events, size_t events_len, u64 *told,
                     size_t told_len);
+_Bool rillmoth_import(const u8 *capture, size_t capture_len, u8 *events, size_t events_len, u64 *told, size_t told_len);
+_Bool rillmoth_hand(const u8 *capture, size_t capture_len, size_t place, u64 *told, size_t told_len);
 
-enum { WORDS = 267, BYTES = 2085, TEST_RESULTS = 3, RUN_RESULTS = 4, READ_RESULTS = 11, UNTOUCHED = 0xAA };
+enum { WORDS = 267, BYTES = 2085, TEST_RESULTS = 3, RUN_RESULTS = 4, READ_RESULTS = 11 };
+enum { IMPORT_RESULTS = 3, HAND_RESULTS = 5, UNTOUCHED = 0xAA };
 enum { SHORT_INPUT = 1, BAD_REQUEST = 2 };
 static const u64 MOST = 64ull << 20;
 
@@ -226,6 +233,21 @@ static void list_file(void) {
     free(file.at), free(text.at);
 }
 
+static void import_capture(void) {
+    struct bytes capture = taken(), events = untouched(number());
+    must(rillmoth_import(capture.at, capture.count, events.at, events.count, told, IMPORT_RESULTS));
+    give(told, IMPORT_RESULTS * sizeof *told);
+    give(events.at, events.count);
+    free(capture.at), free(events.at);
+}
+
+static void hand(void) {
+    struct bytes capture = taken();
+    must(rillmoth_hand(capture.at, capture.count, number(), told, HAND_RESULTS));
+    give(told, HAND_RESULTS * sizeof *told);
+    free(capture.at);
+}
+
 int main(void) {
     while (input_at < input_end || more()) {
         switch (number()) {
@@ -234,6 +256,8 @@ int main(void) {
             case 3: run(); break;
             case 4: read_file(); break;
             case 5: list_file(); break;
+            case 6: import_capture(); break;
+            case 7: hand(); break;
             default: end(BAD_REQUEST);
         }
     }

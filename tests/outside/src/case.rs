@@ -1,5 +1,6 @@
 //! One case: a function of the proved code with all that it is handed, and the answer to it.
 
+use crate::capture::{self, Imported, Made};
 use crate::house::{self, Answered};
 use crate::listing::{self, Listed};
 use crate::refusal::{Offered, Refusal};
@@ -14,6 +15,8 @@ pub enum Case {
     Run { offered: Offered, trace: Vec<u8>, room: usize },
     Read { file: Vec<u8>, row_room: usize, event_room: usize },
     List { file: Vec<u8> },
+    Import { capture: Made, room: usize },
+    Hand { capture: Made, place: u64 },
 }
 
 #[derive(Clone, Debug, PartialEq)]
@@ -22,6 +25,8 @@ pub enum Answer {
     Run(Ran),
     Read(Answered),
     List(Listed),
+    Import(Imported),
+    Hand([u64; 5]),
 }
 
 /// The functions, in the order in which the driver numbers them, each with the refusal numbers that
@@ -32,6 +37,8 @@ pub const FUNCTIONS: &[(&str, &[u64])] = &[
     ("run", &[1, 2, 3, 4, 5, 6, 7, 9, 10]),
     ("read", &[1, 2, 3, 4, 5, 6, 7, 9, 10, 11, 12, 13, 14]),
     ("list", &[1, 2, 3, 4, 5, 6, 7, 9, 11, 12, 13, 14]),
+    ("import", &[7, 9, 10, 15, 16]),
+    ("hand", &[7, 9, 15, 16]),
 ];
 
 fn told(refusal: Option<Refusal>) -> [u64; 3] {
@@ -47,6 +54,8 @@ impl Case {
             Case::Run { .. } => 2,
             Case::Read { .. } => 3,
             Case::List { .. } => 4,
+            Case::Import { .. } => 5,
+            Case::Hand { .. } => 6,
         }
     }
 
@@ -64,6 +73,8 @@ impl Case {
             Case::Run { offered, trace, room } => Answer::Run(run::run(offered, trace, *room, wrong)),
             Case::Read { file, row_room, event_room } => Answer::Read(house::read(file, *row_room, *event_room, wrong)),
             Case::List { file } => Answer::List(listing::list(file, wrong)),
+            Case::Import { capture, room } => Answer::Import(capture::import(&capture.bytes(), *room, wrong)),
+            Case::Hand { capture, place } => Answer::Hand(capture::hand(&capture.bytes(), *place, wrong)),
         }
     }
 }
@@ -74,7 +85,7 @@ impl Answer {
         match self {
             Answer::Session { session, .. } => session.flag.is_some(),
             Answer::Run(ran) => ran.told[3] > 0,
-            Answer::Read(_) => false,
+            Answer::Read(_) | Answer::Import(_) | Answer::Hand(_) => false,
             Answer::List(listed) => listed.outcome == listing::FLAGGED,
         }
     }
@@ -85,6 +96,8 @@ impl Answer {
             Answer::Session { told, .. } => told[0],
             Answer::Run(ran) => ran.told[0],
             Answer::Read(answered) => answered.told[0],
+            Answer::Import(imported) => imported.told[0],
+            Answer::Hand(told) => told[0],
             Answer::List(listed) => {
                 let mut words = listed.text.split_whitespace();
                 match (words.next(), words.next()) {

@@ -3,14 +3,14 @@
 
 use crate::case::Case;
 use crate::random::Random;
-use crate::{file_edges, files, run_edges, runs, session_edges, sessions};
+use crate::{captures, file_edges, files, run_edges, runs, session_edges, sessions};
 
 pub const BATCH: usize = 1000;
 
 /// A way of making a case.
 type Maker = fn(&mut Random) -> Case;
 
-/// How many cases of a hundred come from each maker.
+/// How many cases of each hundred and ten come from each maker.
 const MIX: &[(usize, Maker)] = &[
     (30, runs::run),
     (10, runs::damaged_run),
@@ -25,6 +25,8 @@ const MIX: &[(usize, Maker)] = &[
     (6, files::damaged_read),
     (5, files::list),
     (4, files::damaged_list),
+    (5, captures::imported),
+    (5, captures::handed),
 ];
 
 /// The systematic cases, which need no seed.
@@ -32,6 +34,7 @@ pub fn edges() -> Vec<Case> {
     let mut cases = run_edges::edges();
     cases.extend(session_edges::edges());
     cases.extend(file_edges::edges());
+    cases.extend(captures::edges());
     cases
 }
 

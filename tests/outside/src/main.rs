@@ -1,6 +1,8 @@
 //! The tests outside the proofs: document 01 once more, written from the document alone and by search,
 //! and compared with the proved code case by case. It shares neither code nor idea with that code.
 
+mod capture;
+mod captures;
 mod case;
 mod compare;
 mod driver;
@@ -175,11 +177,11 @@ fn compared(tally: &Tally, passed: &mut usize, failed: &mut usize) {
 /// Tells how many cases told each wrong monitor apart; at least one must.
 fn apart(counts: &[Counts], of: usize, passed: &mut usize, failed: &mut usize) {
     println!("wrong monitors, and how many of {of} cases tell them apart:");
-    let names: String = FUNCTIONS.iter().map(|(name, _)| format!("{name:>6}")).collect();
+    let names: String = FUNCTIONS.iter().map(|(name, _)| format!("{name:>7}")).collect();
     println!("   all{names}");
     for (counts, (_, name, does)) in counts.iter().zip(wrong::ALL) {
         let all: usize = counts.iter().sum();
-        let each: String = counts.iter().map(|count| format!("{count:6}")).collect();
+        let each: String = counts.iter().map(|count| format!("{count:7}")).collect();
         println!("{all:6}{each}  {name}: {does}");
         if all > 0 {
             *passed += 1;

@@ -1,5 +1,6 @@
 //! Cases and differences in few words, for whoever looks for a fault.
 
+use crate::capture::Made;
 use crate::case::{Answer, Case};
 use crate::refusal::Offered;
 use crate::session::Session;
@@ -40,6 +41,11 @@ fn session(session: &Session) -> String {
     )
 }
 
+fn made(capture: &Made) -> String {
+    let Made { start, record, times, end } = capture;
+    format!("capture {}, {times} times {}, {}", bytes(start), bytes(record), bytes(end))
+}
+
 pub fn case(case: &Case) -> String {
     match case {
         Case::Open { offered: given } => format!("open {}", offered(given)),
@@ -51,6 +57,8 @@ pub fn case(case: &Case) -> String {
             format!("read rooms {row_room} {event_room} file ({}) {}", file.len(), bytes(file))
         }
         Case::List { file } => format!("list file ({}) {}", file.len(), bytes(file)),
+        Case::Import { capture, room } => format!("import room {room} {}", made(capture)),
+        Case::Hand { capture, place } => format!("hand place {place} {}", made(capture)),
     }
 }
 
@@ -75,6 +83,10 @@ pub fn difference(right: &Answer, came: &Answer) -> String {
             let line = lines.find(|(one, other)| one != other);
             format!("outcome {} and not {}{text} {line:?}", right.outcome, came.outcome)
         }
+        (Answer::Import(right), Answer::Import(came)) => {
+            format!("told {:?} and not {:?}{}", right.told, came.told, buffers("events", &right.events, &came.events))
+        }
+        (Answer::Hand(right), Answer::Hand(came)) => format!("told {right:?} and not {came:?}"),
         _ => String::from("an answer of another kind"),
     }
 }

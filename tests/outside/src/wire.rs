@@ -1,6 +1,7 @@
 //! Requests and answers as bytes, every number as 8 of them, least byte first; and a driver made of this
 //! package's own implementation, with which the way of asking can be tried without the proved code.
 
+use crate::capture::{Imported, Made};
 use crate::case::{Answer, Case};
 use crate::house::Answered;
 use crate::listing::Listed;
@@ -57,6 +58,14 @@ pub fn request(case: &Case) -> Vec<u8> {
             put(&mut bytes, *event_room as u64);
         }
         Case::List { file } => put_counted(&mut bytes, file),
+        Case::Import { capture, room } => {
+            put_counted(&mut bytes, &capture.bytes());
+            put(&mut bytes, *room as u64);
+        }
+        Case::Hand { capture, place } => {
+            put_counted(&mut bytes, &capture.bytes());
+            put(&mut bytes, *place);
+        }
     }
     bytes
 }
@@ -115,6 +124,10 @@ pub fn get_answer(case: &Case, from: &mut dyn Read) -> io::Result<Answer> {
             let text = get_bytes(from, length as usize)?;
             Answer::List(Listed { text: String::from_utf8_lossy(&text).into_owned(), outcome: get(from)? })
         }
+        Case::Import { room, .. } => {
+            Answer::Import(Imported { told: get_told(from)?, events: get_bytes(from, *room)? })
+        }
+        Case::Hand { .. } => Answer::Hand(get_told(from)?),
     })
 }
 
@@ -141,6 +154,8 @@ fn get_case(operation: u64, from: &mut dyn Read) -> io::Result<Case> {
         3 => Case::Run { offered: get_offered(from)?, trace: get_counted(from)?, room: get(from)? as usize },
         4 => Case::Read { file: get_counted(from)?, row_room: get(from)? as usize, event_room: get(from)? as usize },
         5 => Case::List { file: get_counted(from)? },
+        6 => Case::Import { capture: Made::plain(get_counted(from)?), room: get(from)? as usize },
+        7 => Case::Hand { capture: Made::plain(get_counted(from)?), place: get(from)? },
         _ => return Err(io::Error::new(io::ErrorKind::InvalidData, format!("operation {operation}"))),
     })
 }
@@ -152,6 +167,8 @@ fn reply(answer: &Answer) -> Vec<u8> {
         Answer::Run(ran) => &ran.told,
         Answer::Read(answered) => &answered.told,
         Answer::List(_) => &[],
+        Answer::Import(imported) => &imported.told,
+        Answer::Hand(told) => told,
     };
     for number in told {
         put(&mut bytes, *number);
@@ -167,6 +184,8 @@ fn reply(answer: &Answer) -> Vec<u8> {
             put_counted(&mut bytes, listed.text.as_bytes());
             put(&mut bytes, listed.outcome);
         }
+        Answer::Import(imported) => bytes.extend(&imported.events),
+        Answer::Hand(_) => {}
     }
     bytes
 }

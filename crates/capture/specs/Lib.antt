@@ -1,0 +1,7 @@
+pub mod Limits
+pub mod Refusals
+pub mod Capture
+pub mod Reading
+pub mod Importing
+pub mod Laws
+pub mod Judging

@@ -1,0 +1,28 @@
+-- Every statement of specs/Laws.antt, proved. Assumes nothing.
+use mathlib.Core.Path.{_≡_, refl, sym, ap, _∙_}
+use mathlib.Core.Bool.{Bool, true, false}
+use Rattle.table.proofs.Checks.{clash}
+use Rattle.capture.specs.Importing.{front}
+use Rattle.capture.specs.declared.answer.Imported.{Imported}
+use Rattle.capture.proofs.Laws.{one-import}
+use Rattle.capturedoors.specs.Results.{import-results}
+use Rattle.capturedoors.specs.Results as doors
+use Rattle.capturedoors.specs.Laws.{OneImporting, OneHanding}
+
+-- memory is not both too short and long enough
+not-both : {A : Type 0} {r : Bool} → r ≡ false → r ≡ true → A
+not-both e f = let h = sym e ∙ f in clash (cc)
+
+pub one-importing : OneImporting
+one-importing s d t a₁ a₂ d₁ t₁ d₂ t₂ (doors.Importing.short e) (doors.Importing.short e′) = (refl, refl, refl)
+one-importing s d t a₁ a₂ d₁ t₁ d₂ t₂ (doors.Importing.short e) (doors.imports e′ f) = not-both e e′
+one-importing s d t a₁ a₂ d₁ t₁ d₂ t₂ (doors.imports e f) (doors.Importing.short e′) = not-both e′ e
+one-importing s d t a₁ a₂ d₁ t₁ d₂ t₂ (doors.imports {r = x} e f) (doors.imports {r = y} e′ f′) =
+    let (same, memory) = one-import s d x y d₁ d₂ f f′ in
+    (refl, memory, ap (λ (z : Imported). front t (import-results z)) same)
+
+pub one-handing : OneHanding
+one-handing s i t a₁ a₂ t₁ t₂ (doors.Handing.short e) (doors.Handing.short e′) = (refl, refl)
+one-handing s i t a₁ a₂ t₁ t₂ (doors.Handing.short e) (doors.hands e′) = not-both e e′
+one-handing s i t a₁ a₂ t₁ t₂ (doors.hands e) (doors.Handing.short e′) = not-both e′ e
+one-handing s i t a₁ a₂ t₁ t₂ (doors.hands e) (doors.hands e′) = (refl, refl)

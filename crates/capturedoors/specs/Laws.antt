@@ -1,0 +1,17 @@
+-- What is shown of the functions, each under one sentence. proofs/Laws.antt proves them all. Assumes nothing.
+use mathlib.Core.Path.{_≡_}
+use mathlib.Core.Bool.{Bool}
+use mathlib.Core.List.{List}
+use Prim.Native.Nat.{ℕ}
+use Rattle.capturedoors.specs.Results.{Importing, Handing}
+
+-- Of one input there is one answer, and one content of each memory that was lent.
+abbrev pub OneImporting : Type 0
+OneImporting =
+    (capture events told : List ℕ) (a₁ a₂ : Bool) (events₁ told₁ events₂ told₂ : List ℕ) → Importing capture events told a₁ events₁ told₁
+    → Importing capture events told a₂ events₂ told₂ → (a₁ ≡ a₂) × (events₁ ≡ events₂) × (told₁ ≡ told₂)
+
+abbrev pub OneHanding : Type 0
+OneHanding =
+    (capture : List ℕ) (place : ℕ) (told : List ℕ) (a₁ a₂ : Bool) (told₁ told₂ : List ℕ) → Handing capture place told a₁ told₁
+    → Handing capture place told a₂ told₂ → (a₁ ≡ a₂) × (told₁ ≡ told₂)
