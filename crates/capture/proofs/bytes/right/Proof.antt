@@ -18,7 +18,7 @@ both-requires-2 c κs = search needs
 
 returns : tie.Need-returns
 unfolding right
-returns c = cc
+returns c = rw (c .both2 .ensures, c .before .both .ensures, c .before .before .four-at2 .ensures, c .before .before .before .four-at .ensures)
 
 pub right-spec : {M : Type 1} → statement M
 right-spec =
