@@ -4,12 +4,12 @@ use mathlib.Core.Bool.{true, false}
 use mathlib.Core.List.{List}
 use mathlib.Core.Logic.{_↔_}
 use Prim.Native.Nat.{ℕ, _<_}
+use Rattle.flaw.specs.declared.Fill.the-variants.{Stray}
+use Rattle.flaw.specs.declared.Test.the-variants.{Passed}
 use Rattle.block.specs.Limits.{check-at}
-use Rattle.block.specs.Block.{stray, GoodBlock, fill-test, block-test}
-use Rattle.block.specs.declared.answer.Flaw.the-variants.{Fill}
-use Rattle.block.specs.declared.answer.Test.the-variants.{Passed, Failed}
+use Rattle.block.specs.Block.{stray, GoodBlock, fill-of, block-test}
 
--- 12 and 13 are given exactly when a block is not what it must be.
+-- 12 and 20 to 23 are given exactly when a block is not what it must be.
 abbrev pub BlockPasses : Type 0
 BlockPasses = (b : List ℕ) (k : ℕ) (a : List ℕ) → block-test b k a ≡ Passed ↔ GoodBlock b k a
 
@@ -17,5 +17,5 @@ BlockPasses = (b : List ℕ) (k : ℕ) (a : List ℕ) → block-test b k a ≡ P
 abbrev pub FirstStray : Type 0
 FirstStray =
     (b : List ℕ) (i : ℕ)
-    → fill-test b ≡ Failed (Fill i)
+    → fill-of b ≡ Stray i
     ↔ ((i < check-at) × (stray b i ≡ true) × ((j : ℕ) → j < i → stray b j ≡ false))

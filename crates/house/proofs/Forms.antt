@@ -11,8 +11,8 @@ use borrow.Author.Tests.{eqb-true, eq-eqb, leb-true, le-leb}
 use Rattle.table.proofs.Checks.{both}
 use Rattle.block.specs.Limits.{block-size}
 use Rattle.block.specs.Block.{block-test}
-use Rattle.block.specs.declared.answer.Test.{Test}
-use Rattle.block.specs.declared.answer.Test.the-variants as block
+use Rattle.flaw.specs.declared.Test.{Test}
+use Rattle.flaw.specs.declared.Test.the-variants as block
 use Rattle.block.proofs.Laws.{block-passes}
 use Rattle.house.specs.Limits.{most-bytes}
 use Rattle.house.specs.Verdicts.{must}

@@ -22,7 +22,7 @@ use Rattle.house.specs.declared.answer.Verdict.the-variants.{Passed}
 
 -- THE BLOCKS
 
--- 11, 12 and 13 are given exactly when the file has not 1 to 15 whole blocks that are all good.
+-- 11, 12 and 20 to 23 are given exactly when the file has not 1 to 15 whole blocks that are all good.
 abbrev pub FormPasses : Type 0
 FormPasses = (s : List ℕ) → form-test s ≡ Passed ↔ GoodForm s
 

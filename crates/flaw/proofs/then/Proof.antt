@@ -1,7 +1,7 @@
--- `answer::then` meets its contract, arm by arm. Assumes nothing.
+-- `flaw::then` meets its contract, arm by arm. Assumes nothing.
 use borrow.Author.Needs.{needs}
-use Rattle.block.proofs.answer.then.Statement.{statement}
-use Rattle.block.proofs.answer.then.Tie as tie
+use Rattle.flaw.proofs.then.Statement.{statement}
+use Rattle.flaw.proofs.then.Tie as tie
 
 enum-told : tie.Need-enum-told
 enum-told c = search needs

@@ -1,6 +1,6 @@
--- `answer::must` meets its contract. Assumes nothing.
-use Rattle.block.proofs.answer.must.Statement.{statement}
-use Rattle.block.proofs.answer.must.Tie as tie
+-- `flaw::must` meets its contract. Assumes nothing.
+use Rattle.flaw.proofs.must.Statement.{statement}
+use Rattle.flaw.proofs.must.Tie as tie
 
 returns : tie.Need-returns
 returns c = rw (c .if1 .taken)
