@@ -1,4 +1,5 @@
--- Every statement of specs/Laws.antt, proved, under one roof: other crates take the laws from here. Assumes nothing.
+-- Every statement of specs/Laws.antt, proved, under one roof: other crates take the laws from here; and what became of number 13,
+-- whose statement stands in proofs/Before.antt with the definitions of that time. Assumes nothing.
 use mathlib.Core.Path.{_≡_, refl, sym, ap, _∙_}
 use mathlib.Core.List.{List, []}
 use Prim.Native.Nat.{ℕ, _≤_}
@@ -14,6 +15,7 @@ use Rattle.house.specs.declared.answer.Reading.the-variants.{Good}
 use Rattle.house.specs.declared.answer.Source.{Source}
 use Rattle.house.specs.declared.answer.Source.the-variants.{Rows, Standard}
 use Rattle.house.specs.declared.answer.Verdict.the-variants.{Passed}
+use Rattle.house.proofs.Before
 use Rattle.house.proofs.Contents.{good-passed, good-contents}
 use Rattle.house.proofs.Events.{valid-known, valid-to}
 use Rattle.house.proofs.Forms
@@ -85,3 +87,7 @@ rows-untouched s d e c d′ e′ x h =
 pub counts-held : CountsHeld
 unfolding contents-of
 counts-held s = (refl, refl)
+
+-- What became of number 13.
+pub same-files : Before.SameFiles
+same-files = Before.same-files

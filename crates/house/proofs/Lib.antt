@@ -4,4 +4,5 @@ pub mod Verdicts
 pub mod Contents
 pub mod Forms
 pub mod Good
+pub mod Before
 pub mod Laws
