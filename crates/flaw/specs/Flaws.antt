@@ -35,19 +35,27 @@ first-of [] = Passed
 first-of (t ∷ []) = t
 first-of (t ∷ u ∷ ts) = then t (first-of (u ∷ ts))
 
--- THE FIRST FLAW: 12, then in this order, 20 kind or block order, 21 byte 1 or number, 22 used count, 23 source or zero fill.
+-- THE FIRST FLAW, in this order:
+
+-- 20 kind or block order,
+abbrev pub place-test : Seen → Test
+place-test s = first-of (must (s .kind) Kind ∷ must (s .order) Order ∷ [])
+
+-- 21 byte 1 or number,
+abbrev pub number-test : Seen → Test
+number-test s = first-of (must (s .one) ByteOne ∷ must (s .number) Number ∷ [])
+
+-- 22 used count,
+abbrev pub used-test : Seen → Test
+used-test s = must (s .used) Used
+
+-- 23 source or zero fill;
+abbrev pub fill-test : Seen → Test
+fill-test s = first-of (must (s .source) Source ∷ of-fill (s .fill) ∷ [])
+
+-- and before them all, 12.
 unfoldable pub first-flaw : Seen → Test
-first-flaw s =
-    first-of
-    (must (s .check) Check
-    ∷ must (s .kind) Kind
-    ∷ must (s .order) Order
-    ∷ must (s .one) ByteOne
-    ∷ must (s .number) Number
-    ∷ must (s .used) Used
-    ∷ must (s .source) Source
-    ∷ of-fill (s .fill)
-    ∷ [])
+first-flaw s = first-of (must (s .check) Check ∷ place-test s ∷ number-test s ∷ used-test s ∷ fill-test s ∷ [])
 
 -- WHAT IS TOLD OF IT
 

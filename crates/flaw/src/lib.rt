@@ -86,11 +86,10 @@ pub fn first(seen: Seen) -> Test
     let used = must(seen.used, Flaw::Used);
     let source = must(seen.source, Flaw::Source);
     let fill = of_fill(rest);
-    let payload = then(used, then(source, fill));
-    then(
-        check,
-        then(kind, then(order, then(one, then(number, payload)))),
-    )
+    let placed = then(kind, order);
+    let numbered = then(one, number);
+    let filled = then(source, fill);
+    then(check, then(placed, then(numbered, then(used, filled))))
 }
 
 fn number(flaw: Flaw) -> u8
