@@ -4,14 +4,20 @@ use mathlib.Core.Bool.{true, false}
 use mathlib.Core.List.{List}
 use mathlib.Core.Logic.{_↔_}
 use Prim.Native.Nat.{ℕ, _<_}
+use Rattle.flaw.specs.Laws.{Shows}
 use Rattle.flaw.specs.declared.Fill.the-variants.{Stray}
-use Rattle.flaw.specs.declared.Test.the-variants.{Passed}
+use Rattle.flaw.specs.declared.Flaw.{Flaw}
+use Rattle.flaw.specs.declared.Test.the-variants.{Passed, Failed}
 use Rattle.block.specs.Limits.{check-at}
-use Rattle.block.specs.Block.{stray, GoodBlock, fill-of, block-test}
+use Rattle.block.specs.Block.{stray, GoodBlock, fill-of, seen, block-test}
 
 -- 12 and 20 to 23 are given exactly when a block is not what it must be.
 abbrev pub BlockPasses : Type 0
 BlockPasses = (b : List ℕ) (k : ℕ) (a : List ℕ) → block-test b k a ≡ Passed ↔ GoodBlock b k a
+
+-- A flaw is told exactly when it is there and all that comes before it is right.
+abbrev pub FlawTold : Type 0
+FlawTold = (b : List ℕ) (k : ℕ) (a : List ℕ) (f : Flaw) → block-test b k a ≡ Failed f ↔ Shows (seen b k a) f
 
 -- Of the zero fill is told the first byte that should be zero and is not.
 abbrev pub FirstStray : Type 0
