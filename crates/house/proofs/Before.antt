@@ -1,5 +1,6 @@
 -- The reader's refusals as they were before number 13 was split: the definitions of that time, word for word but for the homes of
--- names that have moved since. They stand here for the one statement at the end, and for nothing else. Assumes nothing.
+-- names that have moved since. They stand here for the one statement at the end, and for nothing else. What a field must be, and the
+-- tests of what a file holds, are those of today: the statement is about the split alone. Assumes nothing.
 use mathlib.Core.Path.{_≡_}
 use mathlib.Core.List.{List, [], _∷_}
 use mathlib.Core.Logic.{_⊎_}
