@@ -4,9 +4,9 @@ ghost use mathlib.Core.Path.{_≡_};
 ghost use Rattle.flaw.specs.Flaws.{must, of-fill, then, first-flaw, number-of, offset-of, told};
 use table::Told;
 
-// What is wrong with a block, in the order in which it is told. Over the variants stands their row of the numbers, and the offset told.
+// What is wrong with a block, in the order in which it is told. Over the variants stands the number of theirs, and the offset told.
 pub enum Flaw {
-    // 12 | block check wrong | none
+    // 12 | block check wrong | no offset
     Check,
     // 20 | kind or block order wrong | 0
     Kind,
@@ -17,8 +17,9 @@ pub enum Flaw {
     Number,
     // 22 | used count wrong | 4
     Used,
-    // 23 | source or zero fill wrong | 11, else the first byte that should be zero and is not
+    // 23 | source or zero fill wrong | 11, else the first byte that should be zero
     Source,
+    // The offset of the first byte that should be zero and is not.
     Fill(usize),
 }
 
@@ -34,7 +35,7 @@ pub enum Fill {
     Stray(usize),
 }
 
-// What was seen of a block: of each part, whether it is as it must be.
+// What was seen of a block: of each part, whether it is as it must be; `one` is byte 1.
 pub struct Seen {
     pub check: bool,
     pub kind: bool,
