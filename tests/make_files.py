@@ -4,8 +4,8 @@
     tests/make_files.py            writes crates/filecases/data/, args and stdout
     tests/make_files.py --check    makes them anew elsewhere and compares; the last line is 'N passed, M failed'
 
-The files and the reader below are written from document 01 and share nothing with crates/. Each case names the refusal
-that it is there for, or what a good file holds; the reader must come to the same.
+The files and the reader below are written from documents 01 and 02 and share nothing with crates/. Each case names the
+refusal that it is there for, or what a good file holds; the reader must come to the same.
 """
 
 import sys
@@ -48,8 +48,30 @@ def weighed(data):
     return sum(i * byte for i, byte in enumerate(data, 1)) % MODULUS
 
 
+def flaw(block, index, before):
+    """What is wrong with a block at its place after the block before it (None before block 0): the number, 20 to 23, and
+    the offset; None, if nothing is."""
+    kind, used = block[0], word(block, 4)
+    if kind not in ((SETUP,) if before is None else (ROWS, EVENTS)):
+        return 20, 0
+    if before is not None and (kind < before[0] or kind == before[0] and word(before, 4) < ROOM):
+        return 20, 0
+    if block[1] != 0:
+        return 21, 1
+    if word(block, 2) != index:
+        return 21, 2
+    if not (used == 6 if before is None else 1 <= used <= ROOM):
+        return 22, 4
+    if before is None and block[PAYLOAD_AT + 5] > 1:
+        return 23, PAYLOAD_AT + 5
+    for at in range(PAYLOAD_AT + used, CHECK_AT):
+        if block[at] != 0:
+            return 23, at
+    return None
+
+
 def is_well_formed(block, index, before):
-    """Number 13, of a block at its place after the block before it (None before block 0)."""
+    """The same as document 01 has it, where all of it was number 13: the set of files turned away has not changed."""
     kind, used = block[0], word(block, 4)
     if block[1] != 0 or word(block, 2) != index:
         return False
@@ -78,8 +100,12 @@ def read(data, row_room, event_room):
         block = data[index * BLOCK : (index + 1) * BLOCK]
         if word(block, CHECK_AT) != weighed(block[:CHECK_AT]):
             raise Refused(12, index)
-        if not is_well_formed(block, index, before):
-            raise Refused(13, index)
+        found = flaw(block, index, before)
+        if (found is None) != is_well_formed(block, index, before):
+            raise ValueError(f"block {index}: {found} where document 01 has another set")
+        if found:
+            number, offset = found
+            raise Refused(number, index, offset)
         held[block[0]] += block[PAYLOAD_AT : PAYLOAD_AT + word(block, 4)]
         before = block
     setup, rows, events = held[SETUP], held[ROWS], held[EVENTS]
@@ -358,15 +384,15 @@ def check_files():
 
 
 def kind_files():
-    case("kind_0_in_block_0", changed(EXAMPLE, 0, (0, 0)), "13 0")
-    case("kind_0_all_zero_block", bytes(BLOCK), "13 0")
+    case("kind_0_in_block_0", changed(EXAMPLE, 0, (0, 0)), "20 0 0")
+    case("kind_0_all_zero_block", bytes(BLOCK), "20 0 0")
     for kind in (2, 3, 4, 255):
-        case(f"kind_{kind}_in_block_0", changed(EXAMPLE, 0, (0, kind)), "13 0")
+        case(f"kind_{kind}_in_block_0", changed(EXAMPLE, 0, (0, kind)), "20 0 0")
     for kind in (0, 1, 4, 255):
-        case(f"kind_{kind}_in_block_1", changed(EXAMPLE, 1, (0, kind)), "13 1")
-        case(f"kind_{kind}_in_block_2", changed(EXAMPLE, 2, (0, kind)), "13 2")
-    case("kind_1_twice", b"".join(arranged((SETUP, bytes(BOX)), (SETUP, bytes(BOX)))), "13 1")
-    case("kind_events_first", b"".join(arranged((EVENTS, bytes(4)))), "13 0")
+        case(f"kind_{kind}_in_block_1", changed(EXAMPLE, 1, (0, kind)), "20 1 0")
+        case(f"kind_{kind}_in_block_2", changed(EXAMPLE, 2, (0, kind)), "20 2 0")
+    case("kind_1_twice", b"".join(arranged((SETUP, bytes(BOX)), (SETUP, bytes(BOX)))), "20 1 0")
+    case("kind_events_first", b"".join(arranged((EVENTS, bytes(4)))), "20 0 0")
 
 
 def order_files():
@@ -376,55 +402,58 @@ def order_files():
     def order(name, expected, *parts):
         case(f"order_{name}", b"".join(arranged(setup, *parts)), expected)
 
-    order("rows_after_events", "13 2", (EVENTS, polls(4)), rows)
-    order("rows_after_full_events", "13 2", (EVENTS, polls(504)), rows)
-    order("rows_events_rows", "13 3", rows, (EVENTS, polls(4)), rows)
-    order("full_rows_events_rows", "13 3", (ROWS, bytes(504)), (EVENTS, polls(4)), rows)
-    order("rows_after_short_rows", "13 2", (ROWS, T_ROWS[:3]), (ROWS, T_ROWS[3:]))
-    order("rows_after_503_rows", "13 2", (ROWS, bytes(503)), rows)
-    order("rows_after_full_and_short_rows", "13 3", (ROWS, bytes(504)), rows, rows)
-    order("events_after_short_events", "13 3", rows, (EVENTS, polls(4)), (EVENTS, polls(4)))
-    order("events_after_503_events", "13 3", rows, (EVENTS, polls(503)), (EVENTS, polls(1)))
-    order("events_after_short_events_full", "13 3", rows, (EVENTS, polls(1)), (EVENTS, polls(504)))
+    order("rows_after_events", "20 2 0", (EVENTS, polls(4)), rows)
+    order("rows_after_full_events", "20 2 0", (EVENTS, polls(504)), rows)
+    order("rows_events_rows", "20 3 0", rows, (EVENTS, polls(4)), rows)
+    order("full_rows_events_rows", "20 3 0", (ROWS, bytes(504)), (EVENTS, polls(4)), rows)
+    order("rows_after_short_rows", "20 2 0", (ROWS, T_ROWS[:3]), (ROWS, T_ROWS[3:]))
+    order("rows_after_503_rows", "20 2 0", (ROWS, bytes(503)), rows)
+    order("rows_after_full_and_short_rows", "20 3 0", (ROWS, bytes(504)), rows, rows)
+    order("events_after_short_events", "20 3 0", rows, (EVENTS, polls(4)), (EVENTS, polls(4)))
+    order("events_after_503_events", "20 3 0", rows, (EVENTS, polls(503)), (EVENTS, polls(1)))
+    order("events_after_short_events_full", "20 3 0", rows, (EVENTS, polls(1)), (EVENTS, polls(504)))
     full, few = (EVENTS, polls(504)), (EVENTS, polls(4))
-    order("events_after_full_and_short_events", "13 4", rows, full, few, few)
+    order("events_after_full_and_short_events", "20 4 0", rows, full, few, few)
 
 
 def field_files():
-    case("byte_one_1_in_block_0", changed(EXAMPLE, 0, (1, 1)), "13 0")
-    case("byte_one_255_in_block_1", changed(EXAMPLE, 1, (1, 255)), "13 1")
-    case("byte_one_128_in_last_block", changed(EXAMPLE, 2, (1, 128)), "13 2")
+    case("byte_one_1_in_block_0", changed(EXAMPLE, 0, (1, 1)), "21 0 1")
+    case("byte_one_255_in_block_1", changed(EXAMPLE, 1, (1, 255)), "21 1 1")
+    case("byte_one_128_in_last_block", changed(EXAMPLE, 2, (1, 128)), "21 2 1")
 
-    case("number_1_in_block_0", changed(EXAMPLE, 0, (2, 1)), "13 0")
-    case("number_256_in_block_0", changed(EXAMPLE, 0, (3, 1)), "13 0")
-    case("number_0_in_block_1", changed(EXAMPLE, 1, (2, 0)), "13 1")
-    case("number_2_in_block_1", changed(EXAMPLE, 1, (2, 2)), "13 1")
-    case("number_256_in_block_1", changed(EXAMPLE, 1, (2, 0), (3, 1)), "13 1")
-    case("number_257_in_block_1", changed(EXAMPLE, 1, (3, 1)), "13 1")
-    case("number_65281_in_block_1", changed(EXAMPLE, 1, (3, 255)), "13 1")
-    case("number_1_in_block_2", changed(EXAMPLE, 2, (2, 1)), "13 2")
-    case("number_3_in_block_2", changed(EXAMPLE, 2, (2, 3)), "13 2")
+    case("number_1_in_block_0", changed(EXAMPLE, 0, (2, 1)), "21 0 2")
+    case("number_256_in_block_0", changed(EXAMPLE, 0, (3, 1)), "21 0 2")
+    case("number_0_in_block_1", changed(EXAMPLE, 1, (2, 0)), "21 1 2")
+    case("number_2_in_block_1", changed(EXAMPLE, 1, (2, 2)), "21 1 2")
+    case("number_256_in_block_1", changed(EXAMPLE, 1, (2, 0), (3, 1)), "21 1 2")
+    case("number_257_in_block_1", changed(EXAMPLE, 1, (3, 1)), "21 1 2")
+    case("number_65281_in_block_1", changed(EXAMPLE, 1, (3, 255)), "21 1 2")
+    case("number_1_in_block_2", changed(EXAMPLE, 2, (2, 1)), "21 2 2")
+    case("number_3_in_block_2", changed(EXAMPLE, 2, (2, 3)), "21 2 2")
     later = [block(part[0], index, part[6 : 6 + word(part, 4)]) for index, part in enumerate(EXAMPLE, 1)]
-    case("number_from_1", b"".join(later), "13 0")
+    case("number_from_1", b"".join(later), "21 0 2")
 
     for used in (0, 5, 7, 262, 504, 505, 1536, 65535):
-        case(f"used_{used}_in_block_0", changed(EXAMPLE, 0, (4, used & 255), (5, used >> 8)), "13 0")
+        case(f"used_{used}_in_block_0", changed(EXAMPLE, 0, (4, used & 255), (5, used >> 8)), "22 0 4")
     for used in (0, 505, 506, 1540, 65535):
-        case(f"used_{used}_in_block_1", changed(EXAMPLE, 1, (4, used & 255), (5, used >> 8)), "13 1")
-        case(f"used_{used}_in_block_2", changed(EXAMPLE, 2, (4, used & 255), (5, used >> 8)), "13 2")
-    case("used_0_in_an_empty_row_block", b"".join(arranged((SETUP, bytes(BOX)), (ROWS, b""))), "13 1")
-    case("used_0_in_an_empty_event_block", b"".join(arranged((SETUP, bytes(BOX)), (EVENTS, b""))), "13 1")
-    case("used_505_in_a_full_block", changed(blocks(BOX, b"", symbols(504)), 1, (4, 249)), "13 1")
+        case(f"used_{used}_in_block_1", changed(EXAMPLE, 1, (4, used & 255), (5, used >> 8)), "22 1 4")
+        case(f"used_{used}_in_block_2", changed(EXAMPLE, 2, (4, used & 255), (5, used >> 8)), "22 2 4")
+    case("used_0_in_an_empty_row_block", b"".join(arranged((SETUP, bytes(BOX)), (ROWS, b""))), "22 1 4")
+    case("used_0_in_an_empty_event_block", b"".join(arranged((SETUP, bytes(BOX)), (EVENTS, b""))), "22 1 4")
+    case("used_505_in_a_full_block", changed(blocks(BOX, b"", symbols(504)), 1, (4, 249)), "22 1 4")
 
     for source in (2, 3, 128, 255):
-        case(f"source_{source}", changed(EXAMPLE, 0, (11, source)), "13 0")
+        case(f"source_{source}", changed(EXAMPLE, 0, (11, source)), "23 0 11")
 
     for index, used in ((0, 6), (1, 6), (2, 4)):
-        case(f"fill_first_byte_of_block_{index}", changed(EXAMPLE, index, (6 + used, 1)), f"13 {index}")
-        case(f"fill_last_byte_of_block_{index}", changed(EXAMPLE, index, (509, 255)), f"13 {index}")
-    case("fill_middle_byte_of_block_1", changed(EXAMPLE, 1, (300, 128)), "13 1")
-    case("fill_only_byte_of_503_events", changed(blocks(T, T_ROWS, polls(503)), 2, (509, 1)), "13 2")
-    case("fill_one_event_too_many_for_the_used_count", changed(EXAMPLE, 2, (4, 3), (9, REPORT)), "13 2")
+        case(f"fill_first_byte_of_block_{index}", changed(EXAMPLE, index, (6 + used, 1)), f"23 {index} {6 + used}")
+        case(f"fill_last_byte_of_block_{index}", changed(EXAMPLE, index, (509, 255)), f"23 {index} 509")
+    case("fill_middle_byte_of_block_1", changed(EXAMPLE, 1, (300, 128)), "23 1 300")
+    case("fill_two_bytes_of_block_1", changed(EXAMPLE, 1, (13, 1), (400, 1)), "23 1 13")
+    case("fill_all_bytes_of_block_2", changed(EXAMPLE, 2, *((at, 255) for at in range(10, 510))), "23 2 10")
+    case("fill_byte_11_of_block_1", changed(EXAMPLE, 1, (4, 5), (11, 7)), "23 1 11")
+    case("fill_only_byte_of_503_events", changed(blocks(T, T_ROWS, polls(503)), 2, (509, 1)), "23 2 509")
+    case("fill_one_event_too_many_for_the_used_count", changed(EXAMPLE, 2, (4, 3), (9, REPORT)), "23 2 9")
 
 
 def count_files():
@@ -528,7 +557,7 @@ def event_files():
 
 
 def pair_files():
-    """Two faults or more at once: the first in document 01's order is told."""
+    """Two faults or more at once: the first in the documents' order is told."""
 
     def pair(first, second, note, data, places):
         case(f"pair_{first}_before_{second}_{note}", data, f"{first} {places}")
@@ -536,31 +565,50 @@ def pair_files():
     # the file and its blocks
     pair(11, 12, "length_513", off(blocks(BOX), 0) + b"\0", "513")
     pair(11, 12, "length_8192", off(split(house(BOX, b"", symbols(15 * ROOM))), 0), "8192")
-    pair(11, 13, "length_1535", changed(EXAMPLE, 0, (0, 9))[:1535], "1535")
+    pair(11, 20, "length_1535", changed(EXAMPLE, 0, (0, 9))[:1535], "1535")
     pair(11, 2, "length_511", house(put(BOX, 0, 0))[:511], "511")
-    faults = [(0, "kind", (0, 9)), (1, "kind", (0, 9)), (2, "kind", (0, 9))]
-    faults += [(2, "byte_one", (1, 1)), (2, "number", (3, 7)), (2, "used", (5, 255)), (2, "fill", (509, 1))]
-    for index, name, change in faults:
-        pair(12, 13, f"{name}_of_the_same_block_{index}", off(split(changed(EXAMPLE, index, change)), index), index)
-    pair(12, 13, "source_of_the_same_block", off(split(changed(EXAMPLE, 0, (11, 2))), 0), 0)
-    pair(12, 13, "order_of_the_same_block", off(arranged((SETUP, bytes(T)), (EVENTS, polls(4)), (ROWS, T_ROWS)), 2), 2)
-    pair(13, 12, "block_0_before_block_1", off(split(changed(EXAMPLE, 0, (1, 1))), 1), 0)
-    pair(13, 12, "block_0_before_block_2", off(split(changed(EXAMPLE, 0, (11, 2))), 2), 0)
-    pair(13, 12, "block_1_before_block_2", off(split(changed(EXAMPLE, 1, (509, 1))), 2), 1)
-    pair(12, 13, "block_0_before_block_1", off(split(changed(EXAMPLE, 1, (1, 1))), 0), 0)
-    pair(12, 13, "block_1_before_block_2", off(split(changed(EXAMPLE, 2, (1, 1))), 1), 1)
+    faults = [(0, 20, "kind", (0, 9)), (1, 20, "kind", (0, 9)), (2, 20, "kind", (0, 9)), (2, 21, "byte_one", (1, 1))]
+    faults += [(2, 21, "number", (3, 7)), (2, 22, "used", (5, 255)), (2, 23, "fill", (509, 1)), (0, 23, "source", (11, 2))]
+    for index, number, name, change in faults:
+        pair(12, number, f"{name}_of_the_same_block_{index}", off(split(changed(EXAMPLE, index, change)), index), index)
+    disordered = arranged((SETUP, bytes(T)), (EVENTS, polls(4)), (ROWS, T_ROWS))
+    pair(12, 20, "order_of_the_same_block", off(disordered, 2), 2)
+    pair(21, 12, "block_0_before_block_1", off(split(changed(EXAMPLE, 0, (1, 1))), 1), "0 1")
+    pair(23, 12, "block_0_before_block_2", off(split(changed(EXAMPLE, 0, (11, 2))), 2), "0 11")
+    pair(23, 12, "block_1_before_block_2", off(split(changed(EXAMPLE, 1, (509, 1))), 2), "1 509")
+    pair(12, 21, "block_0_before_block_1", off(split(changed(EXAMPLE, 1, (1, 1))), 0), 0)
+    pair(12, 21, "block_1_before_block_2", off(split(changed(EXAMPLE, 2, (1, 1))), 1), 1)
     pair(12, 12, "block_1_before_block_2", off(split(off(EXAMPLE, 2)), 1), 1)
-    pair(13, 13, "block_1_before_block_2", changed(split(changed(EXAMPLE, 2, (0, 9))), 1, (1, 1)), 1)
+    pair(21, 20, "block_1_before_block_2", changed(split(changed(EXAMPLE, 2, (0, 9))), 1, (1, 1)), "1 1")
+    pair(23, 20, "block_0_before_block_1", changed(split(changed(EXAMPLE, 1, (0, 9))), 0, (11, 2)), "0 11")
+
+    # every two parts of one block: the number, the offset, what it is, and the byte that makes it so
+    setup = [(20, 0, "kind", (0, 9)), (21, 1, "byte_one", (1, 1)), (21, 2, "number", (2, 1)), (22, 4, "used", (4, 5))]
+    setup += [(23, 11, "source", (11, 2)), (23, 12, "fill", (12, 1))]
+    later = [(20, 0, "kind", (0, 9)), (21, 1, "byte_one", (1, 1)), (21, 2, "number", (3, 7)), (22, 4, "used", (4, 0))]
+    later += [(23, 300, "fill", (300, 1)), (23, 509, "last_fill", (509, 1))]
+    for index, parts in ((0, setup), (2, later)):
+        for at, (first, offset, name, change) in enumerate(parts):
+            for second, _, other, another in parts[at + 1 :]:
+                note = f"{name}_before_{other}_in_block_{index}"
+                pair(first, second, note, changed(EXAMPLE, index, change, another), f"{index} {offset}")
+    # a block in the wrong order of which another part is wrong
+    for second, _, other, another in later[1:]:
+        pair(20, second, f"order_before_{other}", changed(disordered, 2, another), "2 0")
+    # everything wrong from some part on
+    for at, (first, offset, name, _) in enumerate(setup):
+        note = f"{name}_and_all_after"
+        case(f"parts_{note}", changed(EXAMPLE, 0, *(change for _, _, _, change in setup[at:])), f"{first} 0 {offset}")
 
     # a later block's form before an earlier block's content
     bad_setup = blocks((0, 0, 17, 0, 0, 0), T_ROWS, [POLL] * 4)
     bad_rows = blocks(T, bytes([2] * 6), [POLL] * 4)
     pair(12, 2, "last_check_before_states", off(bad_setup, 2), 2)
-    pair(13, 2, "last_kind_before_states", changed(bad_setup, 2, (0, 9)), 2)
+    pair(20, 2, "last_kind_before_states", changed(bad_setup, 2, (0, 9)), "2 0")
     pair(12, 4, "last_check_before_entry", off(bad_rows, 2), 2)
-    pair(13, 4, "last_fill_before_entry", changed(bad_rows, 2, (509, 1)), 2)
+    pair(23, 4, "last_fill_before_entry", changed(bad_rows, 2, (509, 1)), "2 509")
     pair(12, 1, "last_check_before_rows_too_few", off(blocks(T, T_ROWS[:5], [POLL]), 2), 2)
-    pair(13, 7, "last_number_before_event", changed(blocks(T, T_ROWS, [9] * 505), 3, (2, 9)), 3)
+    pair(21, 7, "last_number_before_event", changed(blocks(T, T_ROWS, [9] * 505), 3, (2, 9)), "3 2")
     pair(12, 9, "last_check_before_4097_events", off(blocks(BOX, b"", symbols(4097)), 9), 9)
 
     # the content, by neighbours

@@ -10,10 +10,9 @@ use lib.ListN.{length, take, drop, length-drop}
 use lib.Seq.{take-all, take-nil, drop-length, drop-nil, drop-drop}
 use borrow.Author.Tests.{eq-eqb, ne-eqb, le-leb, lt-leb}
 use Rattle.table.proofs.Laws.{found-none, found-first}
+use Rattle.flaw.specs.declared.Fill.the-variants.{Zero, Stray}
 use Rattle.block.specs.Limits.{payload-at, check-at, room}
-use Rattle.block.specs.Block.{byte, kind, used, payload, share, stray, weighed, fill-test}
-use Rattle.block.specs.declared.answer.Flaw.the-variants.{Fill}
-use Rattle.block.specs.declared.answer.Test.the-variants.{Passed, Failed}
+use Rattle.block.specs.Block.{byte, kind, used, payload, share, stray, weighed, fill-of}
 
 -- WHAT IT HOLDS
 
@@ -80,13 +79,13 @@ clean-at b i x e z = simp (eq-eqb (byte b i) 0 (sym e ∙ z), and-false)
 
 module _ (b : List ℕ) (i : ℕ) where
   -- none is found
-  pub fill-none : check-at ≤ i → ((j : ℕ) → j < i → stray b j ≡ false) → Passed ≡ fill-test b
-  unfolding fill-test
+  pub fill-none : check-at ≤ i → ((j : ℕ) → j < i → stray b j ≡ false) → Zero ≡ fill-of b
+  unfolding fill-of
   fill-none l h = rw (found-none (stray b) check-at .1 (λ j m. h j (omega arith)))
 
   -- the first one
   pub fill-at : (x : ℕ) → i < check-at → payload-at + used b ≤ i → ((j : ℕ) → j < i → stray b j ≡ false)
-      → x ≡ byte b i → (x ≡ 0 → ⊥) → Failed (Fill i) ≡ fill-test b
-  unfolding fill-test
+      → x ≡ byte b i → (x ≡ 0 → ⊥) → Stray i ≡ fill-of b
+  unfolding fill-of
   fill-at x l m h e n =
       rw (found-first (stray b) check-at i .1 (l, simp (le-leb _ _ m, ne-eqb (byte b i) 0 (λ z. n (e ∙ z))), h))

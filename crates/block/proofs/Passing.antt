@@ -12,25 +12,13 @@ use borrow.Author.Tests.{eqb-true, eq-eqb, ne-eqb, ltb-true, lt-ltb, leb-true, l
 use Rattle.table.proofs.Checks.{clash, both}
 use Rattle.table.proofs.Laws.{found-none, found-first}
 use Rattle.table.specs.First.{first}
+use Rattle.flaw.proofs.Laws.{no-flaw}
+use Rattle.flaw.specs.declared.Fill.the-variants.{Zero, Stray}
+use Rattle.flaw.specs.declared.Test.the-variants.{Passed}
 use Rattle.block.specs.Limits.{payload-at, check-at, room, setup-kind, row-kind, event-kind, setup-size}
-use Rattle.block.specs.Tests.{must, then}
-use Rattle.block.specs.Block.{byte, byte-one, kind, number, used, source, stored, check, stray, GoodBlock, kind-fits, order-fits, used-fits, source-fits, unless-stray, fill-test, place-test, number-test, payload-test, block-test}
+use Rattle.block.specs.Block.{byte, byte-one, kind, number, used, source, stored, check, stray, GoodBlock, kind-fits, order-fits, used-fits, source-fits, unless-stray, fill-of, seen, block-test}
 use Rattle.block.specs.Laws.{FirstStray, BlockPasses}
-use Rattle.block.specs.declared.answer.Flaw.{Flaw}
-use Rattle.block.specs.declared.answer.Flaw.the-variants.{Check, Kind, Order, ByteOne, Number, Used, Source, Fill}
-use Rattle.block.specs.declared.answer.Test.{Test}
-use Rattle.block.specs.declared.answer.Test.the-variants.{Passed, Failed}
 use Rattle.block.proofs.Blocks.{clean-before, clean-at}
-
--- TESTS
-
-must-passed : (b : Bool) (f : Flaw) → must b f ≡ Passed → b ≡ true
-must-passed true f e = refl
-must-passed false f e = clash (cc)
-
-then-passed : (t u : Test) → then t u ≡ Passed → (t ≡ Passed) × (u ≡ Passed)
-then-passed Passed u e = (refl, e)
-then-passed (Failed f) u e = clash (cc)
 
 -- BOOLS
 
@@ -101,65 +89,62 @@ not-stray b i = (
 )
 
 pub first-stray : FirstStray
-unfolding fill-test
+unfolding fill-of
 first-stray b i = (
   λ e. found-first (stray b) check-at i .0 (go (first (stray b) check-at) e),
   λ h. rw (found-first (stray b) check-at i .1 h),
 )
   where
-    go : (o : Option ℕ) → unless-stray o ≡ Failed (Fill i) → o ≡ some i
+    go : (o : Option ℕ) → unless-stray o ≡ Stray i → o ≡ some i
     go none e = clash (cc)
     go (some j) e = cc
+
+none-stray : (o : Option ℕ) → unless-stray o ≡ Zero → o ≡ none
+none-stray none e = refl
+none-stray (some i) e = clash (cc)
 
 -- ONE BLOCK
 
 module _ (b : List ℕ) (k : ℕ) (a : List ℕ) where
   to : block-test b k a ≡ Passed → GoodBlock b k a
-  unfolding block-test place-test number-test payload-test fill-test
+  unfolding block-test seen fill-of
   to e =
-      let (c, e₁) = then-passed (must (eqb (check b) (stored b)) Check) _ e in
-      let (p, e₂) = then-passed (place-test b k a) _ e₁ in
-      let (n, f) = then-passed (number-test b k) _ e₂ in
-      let (p₁, p₂) = then-passed (must (kind-fits k (kind b)) Kind) _ p in
-      let (n₁, n₂) = then-passed (must (eqb (byte-one b) 0) ByteOne) _ n in
-      let (f₁, e₃) = then-passed (must (used-fits k (used b)) Used) _ f in
-      let (f₂, f₃) = then-passed (must (source-fits k (source b)) Source) _ e₃ in
-      let kinds = kind-fit k (kind b) .0 (must-passed _ Kind p₁) in
-      let order = order-fit (kind b) (kind a) (used a) .0 (must-passed _ Order p₂) in
-      let uses = used-fit k (used b) .0 (must-passed _ Used f₁) in
+      let ((((c, kind-right, order-right), one, n), used-right), source-right, f) = no-flaw (seen b k a) .0 e in
+      let kinds = kind-fit k (kind b) .0 kind-right in
+      let order = order-fit (kind b) (kind a) (used a) .0 order-right in
+      let uses = used-fit k (used b) .0 used-right in
       record {
-        checked = eqb-true _ _ (must-passed _ Check c);
+        checked = eqb-true _ _ c;
         first-kind = kinds .0;
         later-kind = kinds .1;
         ordered = order .0;
         full = order .1;
-        zero-one = eqb-true _ _ (must-passed _ ByteOne n₁);
-        numbered = eqb-true _ _ (must-passed _ Number n₂);
+        zero-one = eqb-true _ _ one;
+        numbered = eqb-true _ _ n;
         first-used = uses .0;
         later-used = uses .1;
-        sourced = source-fit k (source b) .0 (must-passed _ Source f₂);
-        filled = λ i l m. not-stray b i .0 (found-none (stray b) check-at .0 (none-stray f₃) i m) l;
+        sourced = source-fit k (source b) .0 source-right;
+        filled = λ i l m. not-stray b i .0 (found-none (stray b) check-at .0 (none-stray _ f) i m) l;
       }
-    where
-      none-stray : unless-stray (first (stray b) check-at) ≡ Passed → first (stray b) check-at ≡ none
-      none-stray = go (first (stray b) check-at)
-        where
-          go : (o : Option ℕ) → unless-stray o ≡ Passed → o ≡ none
-          go none e = refl
-          go (some i) e = clash (cc)
 
   from : GoodBlock b k a → block-test b k a ≡ Passed
-  unfolding block-test place-test number-test payload-test fill-test
+  unfolding block-test seen fill-of
   from g =
-      rw (
-        eq-eqb (check b) (stored b) (g .checked),
-        kind-fit k (kind b) .1 (g .first-kind, g .later-kind),
-        order-fit (kind b) (kind a) (used a) .1 (g .ordered, g .full),
-        eq-eqb (byte-one b) 0 (g .zero-one),
-        eq-eqb (number b) k (g .numbered),
-        used-fit k (used b) .1 (g .first-used, g .later-used),
+      no-flaw (seen b k a) .1 (
+        (
+          (
+            (
+              eq-eqb (check b) (stored b) (g .checked),
+              kind-fit k (kind b) .1 (g .first-kind, g .later-kind),
+              order-fit (kind b) (kind a) (used a) .1 (g .ordered, g .full),
+            ),
+            eq-eqb (byte-one b) 0 (g .zero-one),
+            eq-eqb (number b) k (g .numbered),
+          ),
+          used-fit k (used b) .1 (g .first-used, g .later-used),
+        ),
         source-fit k (source b) .1 (g .sourced),
-        found-none (stray b) check-at .1 (λ i l. not-stray b i .1 (λ m. g .filled i m l)),
+        rw (found-none (stray b) check-at .1 (λ i l. not-stray b i .1 (λ m. g .filled i m l))),
       )
 
 pub block-passes : BlockPasses

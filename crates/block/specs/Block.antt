@@ -1,8 +1,8 @@
--- Document 01, "The house file": one block, byte by byte; what it must be; and the tests of it, numbers 12 and 13. A block is a list
--- of 512 bytes; of a list that is shorter, the bytes that are missing are 0. Assumes nothing.
+-- Document 01, "The house file": one block, byte by byte; what it must be; and the tests of it, numbers 12 and 20 to 23. A block is
+-- a list of 512 bytes; of a list that is shorter, the bytes that are missing are 0. Assumes nothing.
 use mathlib.Core.Path.{_≡_}
 use mathlib.Core.Bool.{Bool, true, cond, not, _&&_, _||_}
-use mathlib.Core.List.{List, [], _∷_}
+use mathlib.Core.List.{List, []}
 use mathlib.Core.Logic.{_⊎_}
 use mathlib.Core.Option.{Option, some, none}
 use Prim.Native.Nat.{ℕ, zero, suc, _+_, _*_, _%_, _≤_, _<_, min}
@@ -10,11 +10,12 @@ use lib.Dec.{eqb, ltb, leb}
 use lib.ListN.{getD, take, drop}
 use Rattle.model.specs.Limits.{UpTo}
 use Rattle.table.specs.First.{first}
+use Rattle.flaw.specs.Flaws.{first-flaw}
+use Rattle.flaw.specs.declared.Fill.{Fill}
+use Rattle.flaw.specs.declared.Fill.the-variants.{Zero, Stray}
+use Rattle.flaw.specs.declared.Seen.{Seen}
+use Rattle.flaw.specs.declared.Test.{Test}
 use Rattle.block.specs.Limits.{payload-at, check-at, room, modulus, setup-kind, row-kind, event-kind, setup-size}
-use Rattle.block.specs.Tests.{must, first-of}
-use Rattle.block.specs.declared.answer.Flaw.the-variants.{Check, Kind, Order, ByteOne, Number, Used, Source, Fill}
-use Rattle.block.specs.declared.answer.Test.{Test}
-use Rattle.block.specs.declared.answer.Test.the-variants.{Passed, Failed}
 
 -- THE BYTES
 
@@ -111,24 +112,27 @@ abbrev pub source-fits : ℕ → ℕ → Bool
 source-fits k source = cond (eqb k 0) (leb source 1) true
 
 -- The first byte that should be zero and is not.
-abbrev pub unless-stray : Option ℕ → Test
-unless-stray none = Passed
-unless-stray (some i) = Failed (Fill i)
+abbrev pub unless-stray : Option ℕ → Fill
+unless-stray none = Zero
+unless-stray (some i) = Stray i
 
-unfoldable pub fill-test : List ℕ → Test
-fill-test b = unless-stray (first (stray b) check-at)
+unfoldable pub fill-of : List ℕ → Fill
+fill-of b = unless-stray (first (stray b) check-at)
 
--- 12, then 13. Where several fields are wrong, the first of these is at fault: kind or block order,
-unfoldable pub place-test : List ℕ → ℕ → List ℕ → Test
-place-test b k a = first-of (must (kind-fits k (kind b)) Kind ∷ must (order-fits (kind b) (kind a) (used a)) Order ∷ [])
+-- What is seen of block k after the block a, part by part.
+unfoldable pub seen : List ℕ → ℕ → List ℕ → Seen
+seen b k a =
+    record {
+      check = eqb (check b) (stored b);
+      kind = kind-fits k (kind b);
+      order = order-fits (kind b) (kind a) (used a);
+      one = eqb (byte-one b) 0;
+      number = eqb (number b) k;
+      used = used-fits k (used b);
+      source = source-fits k (source b);
+      fill = fill-of b;
+    }
 
--- byte 1 or number,
-unfoldable pub number-test : List ℕ → ℕ → Test
-number-test b k = first-of (must (eqb (byte-one b) 0) ByteOne ∷ must (eqb (number b) k) Number ∷ [])
-
--- used count, source or zero fill.
-unfoldable pub payload-test : List ℕ → ℕ → Test
-payload-test b k = first-of (must (used-fits k (used b)) Used ∷ must (source-fits k (source b)) Source ∷ fill-test b ∷ [])
-
+-- 12, then 20 to 23: the first flaw seen, in the order of the crate `flaw`.
 unfoldable pub block-test : List ℕ → ℕ → List ℕ → Test
-block-test b k a = first-of (must (eqb (check b) (stored b)) Check ∷ place-test b k a ∷ number-test b k ∷ payload-test b k ∷ [])
+block-test b k a = first-flaw (seen b k a)

@@ -1,15 +1,13 @@
-// One block of a house file, as a slice of its 512 bytes: its bytes, what it holds, and the tests of numbers 12 and 13. No function asks
-// anything of its caller: each answers every slice, of whatever length, by an equation of specs/Block.antt.
+// One block of a house file, as a slice of its 512 bytes: its bytes, what it holds, and the tests of numbers 12 and 20 to 23. No function
+// asks anything of its caller: each answers every slice, of whatever length, by an equation of specs/Block.antt.
 ghost use mathlib.Core.Path.{_≡_};
-ghost use Rattle.block.specs.Block.{check, kind-fits, order-fits, used-fits, source-fits, fill-test, place-test, number-test, payload-test, block-test};
+ghost use Rattle.block.specs.Block.{check, kind-fits, order-fits, used-fits, source-fits, fill-of, seen, block-test};
+use flaw::Fill;
+use flaw::Seen;
+use flaw::Test;
 
-pub mod answer;
 mod bytes;
 
-pub use answer::Flaw;
-pub use answer::Test;
-use answer::must;
-use answer::then;
 use bytes::CHECK_AT;
 use bytes::ROOM;
 pub use bytes::byte;
@@ -90,56 +88,39 @@ fn source_fits(k: usize, source: u8) -> bool
 }
 
 // Zero fill: after the used count all is zero, up to the check. A used count that is too large leaves nothing to look at.
-fn fill(b: &[u8]) -> Test
-    ensures { λ r. ⌜ r ≡ fill-test (now (b .entry)) ⌝ }
+fn fill(b: &[u8]) -> Fill
+    ensures { λ r. ⌜ r ≡ fill-of (now (b .entry)) ⌝ }
 {
     let mut i = PAYLOAD_AT + used(b);
     while i < CHECK_AT {
         if byte(b, i) != 0 {
-            return Test::Failed(Flaw::Fill(i));
+            return Fill::Stray(i);
         }
         i += 1;
     }
-    Test::Passed
+    Fill::Zero
 }
 
-// Kind, then block order.
-fn placed(b: &[u8], k: usize, before: &[u8]) -> Test
-    ensures { λ r. ⌜ r ≡ place-test (now (b .entry)) k (now (before .entry)) ⌝ }
+// What is seen of b as block k after the block `before`.
+fn look(b: &[u8], k: usize, before: &[u8]) -> Seen
+    ensures { λ r. ⌜ r ≡ seen (now (b .entry)) k (now (before .entry)) ⌝ }
 {
-    let q = kind(before);
-    let u = used(before);
-    let kind = kind(b);
-    let fits = must(kind_fits(k, kind), Flaw::Kind);
-    let order = must(order_fits(kind, q, u), Flaw::Order);
-    then(fits, order)
+    let here = kind(b);
+    Seen {
+        check: check(b) == stored(b),
+        kind: kind_fits(k, here),
+        order: order_fits(here, kind(before), used(before)),
+        one: byte(b, 1) == 0,
+        number: number(b) == k,
+        used: used_fits(k, used(b)),
+        source: source_fits(k, byte(b, SOURCE_AT)),
+        fill: fill(b),
+    }
 }
 
-// Byte 1, then the number.
-fn numbered(b: &[u8], k: usize) -> Test
-    ensures { λ r. ⌜ r ≡ number-test (now (b .entry)) k ⌝ }
-{
-    let one = must(byte(b, 1) == 0, Flaw::ByteOne);
-    let number = must(number(b) == k, Flaw::Number);
-    then(one, number)
-}
-
-// Used count, then source, then zero fill.
-fn filled(b: &[u8], k: usize) -> Test
-    ensures { λ r. ⌜ r ≡ payload-test (now (b .entry)) k ⌝ }
-{
-    let used = must(used_fits(k, used(b)), Flaw::Used);
-    let source = must(source_fits(k, byte(b, SOURCE_AT)), Flaw::Source);
-    then(used, then(source, fill(b)))
-}
-
-// Numbers 12 and 13, of b as block k after the block `before`. Before block 0 stands nothing, the empty slice.
+// Numbers 12 and 20 to 23, of b as block k after the block `before`. Before block 0 stands nothing, the empty slice.
 pub fn test(b: &[u8], k: usize, before: &[u8]) -> Test
     ensures { λ r. ⌜ r ≡ block-test (now (b .entry)) k (now (before .entry)) ⌝ }
 {
-    let sum = must(check(b) == stored(b), Flaw::Check);
-    then(
-        sum,
-        then(placed(b, k, before), then(numbered(b, k), filled(b, k))),
-    )
+    flaw::first(look(b, k, before))
 }

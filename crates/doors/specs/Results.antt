@@ -14,7 +14,7 @@ use Rattle.house.specs.declared.answer.Contents.{Contents}
 use Rattle.house.specs.declared.answer.Reading.{Reading}
 use Rattle.doors.specs.Layout.{flag-word}
 
--- Words 0 to 2 are the number, the place and the second place: the row and the column of number 4.
+-- Words 0 to 2 are the number, the place and the second place: the row and the column of number 4, the block and the offset of 20 to 23.
 abbrev pub figures : Told → List ℕ
 figures t = t .number ∷ t .place ∷ t .second ∷ []
 

@@ -54,10 +54,15 @@ fn figure(name: &[u8], n: u64) {
     number(n);
 }
 
+// The numbers with two places: 4, row and column; 20 to 23, block and offset.
+fn has_second(number: u8) -> bool {
+    number == 4 || (20 <= number && number <= 23)
+}
+
 fn refused(told: Told) {
     figure(b"refused", told.number as u64);
     number(told.place as u64);
-    if told.number == 4 {
+    if has_second(told.number) {
         number(told.second as u64);
     }
 }

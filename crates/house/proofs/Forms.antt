@@ -11,8 +11,8 @@ use borrow.Author.Tests.{eqb-true, eq-eqb, leb-true, le-leb}
 use Rattle.table.proofs.Checks.{both}
 use Rattle.block.specs.Limits.{block-size}
 use Rattle.block.specs.Block.{block-test}
-use Rattle.block.specs.declared.answer.Test.{Test}
-use Rattle.block.specs.declared.answer.Test.the-variants as block
+use Rattle.flaw.specs.declared.Test.{Test}
+use Rattle.flaw.specs.declared.Test.the-variants as block
 use Rattle.block.proofs.Laws.{block-passes}
 use Rattle.house.specs.Limits.{most-bytes}
 use Rattle.house.specs.Verdicts.{must}
@@ -26,24 +26,24 @@ use Rattle.house.proofs.Verdicts.{must-passed, block-passed, then-passe
 -- ALL BLOCKS
 
 module _ (s : List ℕ) where
-  at-block : ℕ → Test
+  abbrev pub at-block : ℕ → Test
   at-block k = block-test (block-at s k) k (block-before s k)
 
-  each : (n : ℕ) → blocks-test s n ≡ Passed → (k : ℕ) → k < n → at-block k ≡ block.Passed
-  unfolding blocks-test at-block
+  pub each : (n : ℕ) → blocks-test s n ≡ Passed → (k : ℕ) → k < n → at-block k ≡ block.Passed
+  unfolding blocks-test
   each zero e k l = absurd (omega arith)
   each (suc n) e k l =
       let (p, r) = then-passed (blocks-test s n) _ e in
       let m : k ≤ n = omega arith in
       ⊎-elim (λ z. rw z (block-passed _ n r)) (λ l′. each n p k l′) (eq-or-lt-of-le m)
 
-  all : (n : ℕ) → ((k : ℕ) → k < n → at-block k ≡ block.Passed) → blocks-test s n ≡ Passed
-  unfolding blocks-test at-block
+  pub all : (n : ℕ) → ((k : ℕ) → k < n → at-block k ≡ block.Passed) → blocks-test s n ≡ Passed
+  unfolding blocks-test
   all zero h = refl
   all (suc n) h = rw (all n (λ k l. h k (omega arith)), h n (omega arith))
 
 pub form-passes : FormPasses
-unfolding form-test at-block
+unfolding form-test
 form-passes s = (
   λ e.
       let (w, t) = then-passed (must (is-whole (length s)) (Length (length s))) _ e in

@@ -1,4 +1,5 @@
--- Every statement of specs/Laws.antt, proved, under one roof: other crates take the laws from here. Assumes nothing.
+-- Every statement of specs/Laws.antt, proved, under one roof: other crates take the laws from here; and what became of number 13,
+-- whose statement stands in proofs/Before.antt with the definitions of that time. Assumes nothing.
 use mathlib.Core.Path.{_≡_, refl, sym, ap, _∙_}
 use mathlib.Core.List.{List, []}
 use Prim.Native.Nat.{ℕ, _≤_}
@@ -8,12 +9,15 @@ use lib.Seq.{take-append-seam, drop-append-seam}
 use Rattle.house.specs.File.{rows-of, events-of, contents-of, front}
 use Rattle.table.proofs.Checks.{clash}
 use Rattle.house.specs.Reading.{verdict, after, Answers}
-use Rattle.house.specs.Laws.{FormPasses, FirstBad, OneReading, NothingWritten, Starts, WhatIsHeld, GoodRows, ReadExactly, CountsHeld, WhatIsGood, RowsUntouched}
+use Rattle.house.specs.Laws.{FormPasses, BlockTold, NoThirteen, FirstBad, OneReading, NothingWritten, Starts, WhatIsHeld, GoodRows, ReadExactly, CountsHeld, WhatIsGood, RowsUntouched}
 use Rattle.house.specs.declared.answer.Contents.{Contents}
 use Rattle.house.specs.declared.answer.Reading.the-variants.{Good}
 use Rattle.house.specs.declared.answer.Source.{Source}
 use Rattle.house.specs.declared.answer.Source.the-variants.{Rows, Standard}
 use Rattle.house.specs.declared.answer.Verdict.the-variants.{Passed}
+use Rattle.house.proofs.Before.{SameFiles}
+use Rattle.house.proofs.Became
+use Rattle.house.proofs.Faults
 use Rattle.house.proofs.Contents.{good-passed, good-contents}
 use Rattle.house.proofs.Events.{valid-known, valid-to}
 use Rattle.house.proofs.Forms
@@ -22,6 +26,12 @@ use Rattle.house.proofs.Good
 -- The blocks.
 pub form-passes : FormPasses
 form-passes = Forms.form-passes
+
+pub block-told : BlockTold
+block-told = Faults.block-told
+
+pub no-thirteen : NoThirteen
+no-thirteen = Became.no-thirteen
 
 -- The events.
 pub first-bad : FirstBad
@@ -85,3 +95,7 @@ rows-untouched s d e c d′ e′ x h =
 pub counts-held : CountsHeld
 unfolding contents-of
 counts-held s = (refl, refl)
+
+-- What became of number 13.
+pub same-files : SameFiles
+same-files = Became.same-files

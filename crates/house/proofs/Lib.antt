@@ -4,4 +4,7 @@ pub mod Verdicts
 pub mod Contents
 pub mod Forms
 pub mod Good
+pub mod Faults
+pub mod Before
+pub mod Became
 pub mod Laws

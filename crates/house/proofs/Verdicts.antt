@@ -10,8 +10,8 @@ use Rattle.table.proofs.Checks.{clash}
 use Rattle.table.specs.declared.answer.Test.{Test}
 use Rattle.table.specs.declared.answer.Test.the-variants as table
 use Rattle.block.specs.Block.{block-test}
-use Rattle.block.specs.declared.answer.Test as block-answer
-use Rattle.block.specs.declared.answer.Test.the-variants as block
+use Rattle.flaw.specs.declared.Test as block-answer
+use Rattle.flaw.specs.declared.Test.the-variants as block
 use Rattle.house.specs.Verdicts.{must, of-block, of-table, is-passed, then}
 use Rattle.house.specs.File.{block-at, block-before}
 use Rattle.house.specs.Reading.{blocks-test}

@@ -8,23 +8,44 @@ use lib.ListN.{length, take, drop, getD}
 use Rattle.model.specs.Table.{Valid, Bounded}
 use Rattle.table.specs.Bytes.{symbol-of, table-of}
 use Rattle.table.specs.declared.answer.Symbol.the-variants.{Invalid}
+use Rattle.flaw.specs.declared.Flaw.{Flaw}
+use Rattle.flaw.specs.declared.Test.the-variants.{Failed}
+use Rattle.block.specs.Block.{GoodBlock, block-test}
 use Rattle.house.specs.Limits.{most-events, standard-states, standard-inputs, standard-outputs}
-use Rattle.house.specs.File.{GoodForm, rows-of, events-of, contents-of}
+use Rattle.house.specs.File.{block-at, blocks, block-before, GoodForm, rows-of, events-of, contents-of}
 use Rattle.table.specs.Tests.{invalid-at}
-use Rattle.house.specs.Reading.{valid-events, form-test, verdict, Answers}
+use Rattle.house.specs.Reading.{is-whole, valid-events, form-test, verdict, Answers}
+use Rattle.house.specs.Refusals.{told}
 use Rattle.house.specs.declared.answer.Contents.{Contents}
 use Rattle.house.specs.declared.answer.Reading.{Reading}
 use Rattle.house.specs.declared.answer.Reading.the-variants.{Good, Refused}
 use Rattle.house.specs.declared.answer.Refusal.{Refusal}
+use Rattle.house.specs.declared.answer.Refusal.the-variants.{Block}
 use Rattle.house.specs.declared.answer.Source.{Source}
 use Rattle.house.specs.declared.answer.Source.the-variants.{Rows, Standard}
+use Rattle.house.specs.declared.answer.Verdict.the-variants as verdict
 use Rattle.house.specs.declared.answer.Verdict.the-variants.{Passed}
 
 -- THE BLOCKS
 
--- 11, 12 and 13 are given exactly when the file has not 1 to 15 whole blocks that are all good.
+-- 11, 12 and 20 to 23 are given exactly when the file has not 1 to 15 whole blocks that are all good.
 abbrev pub FormPasses : Type 0
 FormPasses = (s : List ℕ) → form-test s ≡ Passed ↔ GoodForm s
+
+-- Block k is the first that is not good, and f is its first flaw.
+pub record Faulty (s : List ℕ) (f : Flaw) (k : ℕ) : Type 0 where
+  pub whole : is-whole (length s) ≡ true
+  pub counted : k < blocks s
+  pub before : (j : ℕ) → j < k → GoodBlock (block-at s j) j (block-before s j)
+  pub flawed : block-test (block-at s k) k (block-before s k) ≡ Failed f
+
+-- 12 and 20 to 23 are told for the first block that is not good, with its first flaw; and only then.
+abbrev pub BlockTold : Type 0
+BlockTold = (s : List ℕ) (a b : ℕ) (f : Flaw) (k : ℕ) → verdict s a b ≡ verdict.Refused (Block f k) ↔ Faulty s f k
+
+-- 13 is given no more.
+abbrev pub NoThirteen : Type 0
+NoThirteen = (r : Refusal) → told r .number ≡ 13 → ⊥
 
 -- THE EVENTS
 

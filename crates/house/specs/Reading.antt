@@ -33,7 +33,7 @@ use Rattle.house.specs.declared.answer.Reading.the-variants as reading
 abbrev pub is-whole : ℕ → Bool
 is-whole n = leb 1 n && (leb n most-bytes && eqb (n % block-size) 0)
 
--- The first k blocks, block by block 12, 13.
+-- The first k blocks, block by block 12, 20, 21, 22, 23.
 unfoldable pub blocks-test : List ℕ → ℕ → Verdict
 blocks-test s zero = Passed
 blocks-test s (suc k) = then (blocks-test s k) (of-block (block-test (block-at s k) k (block-before s k)) k)
@@ -105,7 +105,7 @@ module _ (c : Contents) where
 
 -- THE ANSWER
 
--- File: 11; then block by block 12, 13;
+-- File: 11; then block by block 12, 20 to 23;
 unfoldable pub form-test : List ℕ → Verdict
 form-test s = first-of (must (is-whole (length s)) (refusal.Length (length s)) ∷ blocks-test s (blocks s) ∷ [])
 

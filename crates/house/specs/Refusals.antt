@@ -1,10 +1,8 @@
 -- Document 01, "Numbers for what is turned away": the number of each refusal of a file and the places told with it, and the
--- results that a refused file leaves at 0. Assumes nothing.
-use Prim.Native.Nat.{ℕ}
+-- results that a refused file leaves at 0. The numbers 20 to 23 of document 02, in place of 13, are in the crate `flaw`. Assumes nothing.
 use Rattle.table.specs.Refusals as table
 use Rattle.table.specs.declared.answer.Told.{Told}
-use Rattle.block.specs.declared.answer.Flaw.{Flaw}
-use Rattle.block.specs.declared.answer.Flaw.the-variants.{Check, Kind, Order, ByteOne, Number, Used, Source, Fill}
+use Rattle.flaw.specs.Flaws as flaw
 use Rattle.house.specs.declared.answer.Contents.{Contents}
 use Rattle.house.specs.declared.answer.Reading.{Reading}
 use Rattle.house.specs.declared.answer.Reading.the-variants as reading
@@ -12,21 +10,10 @@ use Rattle.house.specs.declared.answer.Source.the-variants.{Rows}
 use Rattle.house.specs.declared.answer.Refusal.{Refusal}
 use Rattle.house.specs.declared.answer.Refusal.the-variants.{Length, Block, Standard, Content}
 
--- 12: block check wrong. 13: kind, byte 1, number, used count, source, zero fill or block order wrong.
-abbrev pub number-of : Flaw → ℕ
-number-of Check = 12
-number-of Kind = 13
-number-of Order = 13
-number-of ByteOne = 13
-number-of Number = 13
-number-of Used = 13
-number-of Source = 13
-number-of (Fill place) = 13
-
 -- Row by row of the document's table.
 unfoldable pub told : Refusal → Told
 told (Length length) = table.told-at 11 length
-told (Block flaw block) = table.told-at (number-of flaw) block
+told (Block f block) = flaw.told f block
 told Standard = table.told-at 14 0
 told (Content refusal) = table.told refusal
 

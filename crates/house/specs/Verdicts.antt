@@ -4,8 +4,8 @@ use mathlib.Core.List.{List, [], _∷_}
 use Prim.Native.Nat.{ℕ}
 use Rattle.table.specs.declared.answer.Test as table-test
 use Rattle.table.specs.declared.answer.Test.the-variants as table
-use Rattle.block.specs.declared.answer.Test as block-test
-use Rattle.block.specs.declared.answer.Test.the-variants as block
+use Rattle.flaw.specs.declared.Test as block-test
+use Rattle.flaw.specs.declared.Test.the-variants as block
 use Rattle.house.specs.declared.answer.Refusal.{Refusal}
 use Rattle.house.specs.declared.answer.Refusal.the-variants.{Block, Content}
 use Rattle.house.specs.declared.answer.Reading.{Reading}

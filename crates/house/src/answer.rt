@@ -1,8 +1,8 @@
 // The answers of this crate, and the number and places of document 01 for each refusal.
 ghost use mathlib.Core.Path.{_≡_};
-ghost use Rattle.house.specs.Refusals.{number-of, told};
+ghost use Rattle.house.specs.Refusals.{told};
 ghost use Rattle.house.specs.Verdicts.{must, then, is-passed, is-good, of-block, of-table};
-use block::Flaw;
+use flaw::Flaw;
 use table::Told;
 
 // Why a file is turned away. Over each variant stands its row of document 01's table; what the variant holds is the place told.
@@ -10,7 +10,7 @@ pub enum Refusal {
     // 11 | file empty, not whole blocks, or over 7,680 bytes | length
     Length(usize),
     // 12 | block check wrong | block
-    // 13 | kind, byte 1, number, used count, source, zero fill or block order wrong | block
+    // 20 to 23 | another part of a block is wrong: which one, its flaw says | block, then offset in it
     Block(Flaw, usize),
     // 14 | source 1 and counts not 64, 16, 16 | 0
     Standard,
@@ -88,12 +88,12 @@ pub(crate) fn is_good(r: Reading) -> bool
 }
 
 // A test of block k.
-pub(crate) fn of_block(test: block::Test, k: usize) -> Verdict
+pub(crate) fn of_block(test: flaw::Test, k: usize) -> Verdict
     ensures { λ r. ⌜ r ≡ of-block test k ⌝ }
 {
     match test {
-        block::Test::Passed => Verdict::Passed,
-        block::Test::Failed(flaw) => Verdict::Refused(Refusal::Block(flaw, k)),
+        flaw::Test::Passed => Verdict::Passed,
+        flaw::Test::Failed(flaw) => Verdict::Refused(Refusal::Block(flaw, k)),
     }
 }
 
@@ -107,21 +107,6 @@ pub(crate) fn of_table(test: table::Test) -> Verdict
     }
 }
 
-fn number(flaw: Flaw) -> u8
-    ensures { λ n. ⌜ n ≡ number-of flaw ⌝ }
-{
-    match flaw {
-        Flaw::Check => 12,
-        Flaw::Kind => 13,
-        Flaw::Order => 13,
-        Flaw::ByteOne => 13,
-        Flaw::Number => 13,
-        Flaw::Used => 13,
-        Flaw::Source => 13,
-        Flaw::Fill(_) => 13,
-    }
-}
-
 // The number and the places of a refusal.
 pub fn tell(r: Refusal) -> Told
     ensures { λ t. ⌜ t ≡ told r ⌝ }
@@ -132,11 +117,7 @@ pub fn tell(r: Refusal) -> Told
             place: length,
             second: 0,
         },
-        Refusal::Block(flaw, block) => Told {
-            number: number(flaw),
-            place: block,
-            second: 0,
-        },
+        Refusal::Block(flaw, block) => flaw::tell(flaw, block),
         Refusal::Standard => Told {
             number: 14,
             place: 0,

@@ -39,7 +39,7 @@ fn block_before(file: &[u8], k: usize) -> &[u8]
     }
 }
 
-// Numbers 12 and 13, block by block: the first block at fault is told.
+// Numbers 12 and 20 to 23, block by block: the first block at fault is told.
 fn test(file: &[u8]) -> Verdict
     ensures { λ r. ⌜ r ≡ blocks-test (now (file .entry)) (blocks (now (file .entry))) ⌝ }
 {
@@ -66,7 +66,7 @@ fn whole(n: usize) -> bool
     n <= MOST_BYTES && n % BLOCK == 0
 }
 
-// Numbers 11, 12 and 13.
+// Numbers 11, 12 and 20 to 23.
 pub(crate) fn form(file: &[u8]) -> Verdict
     ensures { λ r. ⌜ r ≡ form-test (now (file .entry)) ⌝ }
 {

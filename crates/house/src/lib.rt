@@ -13,7 +13,7 @@ pub use answer::Refusal;
 pub use answer::Source;
 use answer::is_good;
 pub use answer::tell;
-pub use block::Flaw;
+pub use flaw::Flaw;
 
 // Reads a file: its rows to the start of one buffer, its events to the start of another. With source 1 there are no rows to copy.
 pub fn read(file: &[u8], rows: &mut [u8], events: &mut [u8]) -> Reading

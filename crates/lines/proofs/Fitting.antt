@@ -13,7 +13,7 @@ use Rattle.io.specs.Digits.{glyph, digits}
 use Rattle.table.specs.declared.answer.Told.{Told}
 use Rattle.monitor.specs.declared.session.Flag.the-variants as flag
 use Rattle.lines.specs.Texts.{most-text, blank, text-of, spelt, decimal, hexadecimal}
-use Rattle.lines.specs.Lines.{space, line-feed, dash, symbol, states-in, pair, consistent, flagged, refused, second-place, event-line, last-line, refused-line}
+use Rattle.lines.specs.Lines.{space, line-feed, dash, symbol, states-in, pair, consistent, flagged, refused, has-second, second-place, event-line, last-line, refused-line}
 use Rattle.lines.specs.Laws.{TextHolds, EventFits, LastFits, RefusedFits}
 
 abbrev after : ℕ → ℕ → Bool → List ℕ
@@ -70,7 +70,7 @@ pair-few n a b g h = go (eqb n 0)
     go false = simp length-append (omega (arith, decimal-byte a g, decimal-byte b h))
 
 second-few : (n s : ℕ) → length (second-place n s) ≤ 21
-second-few n s = go (eqb n 4)
+second-few n s = go (has-second n)
   where
     go : (t : Bool) → length (cond {A = List ℕ} t (space ∷ decimal s) []) ≤ 21
     go true = omega (arith, decimal-most s)

@@ -1,8 +1,8 @@
 -- Document 01, "Small cases": the lines of a listing, byte by byte. Assumes nothing.
-use mathlib.Core.Bool.{cond}
+use mathlib.Core.Bool.{Bool, true, cond, _&&_}
 use mathlib.Core.List.{List, [], _∷_, _++_}
 use Prim.Native.Nat.{ℕ, _+_, _-_, _*_}
-use lib.Dec.{eqb, ltb}
+use lib.Dec.{eqb, ltb, leb}
 use lib.ListN.{getD}
 use Rattle.table.specs.declared.answer.Told.{Told}
 use Rattle.monitor.specs.declared.session.Flag.{Flag}
@@ -59,11 +59,14 @@ unfoldable pub last-line : Flag → List ℕ
 last-line flag.None = consistent ++ (line-feed ∷ [])
 last-line (flag.At place) = flagged ++ (space ∷ decimal place) ++ (line-feed ∷ [])
 
--- The second place, which only number 4 has: row then column.
-abbrev pub second-place : ℕ → ℕ → List ℕ
-second-place number second = cond (eqb number 4) (space ∷ decimal second) []
+-- The numbers that have a second place: 4, row then column; 20 to 23, block then offset.
+abbrev pub has-second : ℕ → Bool
+has-second number = cond (eqb number 4) true (leb 20 number && leb number 23)
 
--- A refused file prints only `refused`, the number and the place (for 4, row then column).
+abbrev pub second-place : ℕ → ℕ → List ℕ
+second-place number second = cond (has-second number) (space ∷ decimal second) []
+
+-- A refused file prints only `refused`, the number and the place (for 4, row then column; for 20 to 23, block then offset).
 unfoldable pub refused-line : Told → List ℕ
 refused-line t =
     refused ++ (space ∷ decimal (t .number)) ++ (space ∷ decimal (t .place)) ++ second-place (t .number) (t .second) ++ (line-feed ∷ [])

@@ -4,7 +4,7 @@ ghost use mathlib.Core.List.{[], _∷_};
 ghost use Prim.Native.Nat.{_≤_, _+_};
 ghost use lib.ListN.{getD};
 ghost use Rattle.lines.specs.Texts.{text-of, Adds, decimal, hexadecimal};
-ghost use Rattle.lines.specs.Lines.{space, line-feed, symbol, four, states-in, pair, second-place, event-line, last-line, refused-line};
+ghost use Rattle.lines.specs.Lines.{space, line-feed, symbol, four, states-in, pair, has-second, second-place, event-line, last-line, refused-line};
 use monitor::session::Flag;
 use table::Told;
 
@@ -116,11 +116,20 @@ pub fn last(flag: Flag) -> Text
     }
 }
 
-// The second place of a refusal, which only number 4 has.
+// Whether a refusal has a second place: the column of number 4, the offset of 20 to 23.
+fn has_second(number: u8) -> bool
+    ensures { λ r. ⌜ r ≡ has-second number ⌝ }
+{
+    if number == 4 {
+        return true;
+    }
+    20 <= number && number <= 23
+}
+
 fn add_second(t: Text, number: u8, second: usize) -> Text
     ensures { λ r. ⌜ Adds t (second-place number second) r ⌝ }
 {
-    if number == 4 {
+    if has_second(number) {
         return add_number(t, second as u64);
     }
     t

@@ -32,7 +32,7 @@ pub enum Test {
     Refused(Refusal),
 }
 
-// A refusal in document 01's figures. A place that is not used is 0; only number 4 has a second.
+// A refusal in document 01's figures. A place that is not used is 0; of the numbers given here only 4 has a second.
 pub struct Told {
     pub number: u8,
     pub place: usize,

@@ -1,4 +1,4 @@
-//! Document 01's edges for house files, one by one and in pairs. They need no seed.
+//! The documents' edges for house files, one by one and in pairs. They need no seed.
 
 use crate::case::Case;
 use crate::files::{self, content_of};
@@ -24,6 +24,7 @@ pub fn edges() -> Vec<Case> {
     files.extend(length_edges());
     files.extend(check_edges());
     files.extend(block_edges());
+    files.extend(flaw_edges());
     files.extend(order_edges());
     files.extend(most_edges());
     let mut cases = Vec::new();
@@ -165,7 +166,7 @@ fn remainder_edges() -> Vec<Vec<u8>> {
     files
 }
 
-/// Number 13 within a block: kind, byte 1, number, used count, source and fill, checks repaired.
+/// Numbers 20 to 23 within a block: kind, byte 1, number, used count, source and fill, checks repaired.
 fn block_edges() -> Vec<Vec<u8>> {
     let right = written(&small(vec![0, 128]));
     let mut files = Vec::new();
@@ -201,7 +202,48 @@ fn block_edges() -> Vec<Vec<u8>> {
     files
 }
 
-/// Number 13 between blocks. A block that follows one of its own kind that is not full is at fault.
+/// Every two parts of a block wrong at once, and all of them from each on: the first is told.
+fn flaw_edges() -> Vec<Vec<u8>> {
+    let small = written(&small(vec![0, 128]));
+    let long = written(&standard(vec![0; 1200]));
+    let mut files = Vec::new();
+    for (right, number) in [(&small, 0), (&small, 1), (&small, 2), (&long, 0), (&long, 1), (&long, 3)] {
+        let start = BLOCK * number;
+        let payload_end = PAYLOAD_AT + u16::from_le_bytes([right[start + 4], right[start + 5]]) as usize;
+        // A kind that no block may have, and two that others have; byte 1; the number's low and high byte;
+        // used counts of which the low, the high or both bytes are wrong; the source; and the fill.
+        let mut changes = vec![(0, 9), (0, ROWS), (0, house::HEADER), (1, 1), (2, 77), (3, 1), (3, 255)];
+        changes.extend([(4, 0), (4, 5), (4, 7), (5, 1), (5, 2), (5, 255), (PAYLOAD_AT + 5, 2)]);
+        changes.extend([(12, 1), (13, 1), (payload_end, 1), (300, 1), (508, 1), (CHECK_AT - 1, 1)]);
+        changes.retain(|(place, _)| *place < CHECK_AT);
+        for (at, first) in changes.iter().enumerate() {
+            for second in &changes[at..] {
+                files.push(changed(right, start, &[*first, *second]));
+            }
+            files.push(changed(right, start, &changes[at..]));
+        }
+    }
+    // A block out of order of which another part is wrong too.
+    let mut file = header(&self::small(Vec::new()));
+    file.extend(block(EVENTS, 1, &[0, 0]));
+    file.extend(block(ROWS, 2, &tables::small().rows));
+    for change in [(1, 1), (2, 77), (3, 1), (4, 0), (5, 2), (300, 1)] {
+        files.push(changed(&file, 2 * BLOCK, &[change]));
+    }
+    files
+}
+
+/// The file with these bytes of the block at `start` changed and its check repaired.
+fn changed(right: &[u8], start: usize, changes: &[(usize, u8)]) -> Vec<u8> {
+    let mut file = right.to_vec();
+    for (place, byte) in changes {
+        file[start + place] = *byte;
+    }
+    repair(&mut file[start..start + BLOCK]);
+    file
+}
+
+/// Number 20 between blocks. A block that follows one of its own kind that is not full is at fault.
 fn order_edges() -> Vec<Vec<u8>> {
     let head = |content: &Content| vec![(house::HEADER, header(content)[PAYLOAD_AT..PAYLOAD_AT + 6].to_vec())];
     let mut files = Vec::new();

@@ -1,5 +1,5 @@
 //! The house file: a writer that builds files block by block, right ones and damaged ones, and the
-//! reader with its refusals: 11; block by block 12, 13; then 2, 3, 14, 1, 4, 5, 6, 9, 7, 10.
+//! reader with its refusals: 11; block by block 12, 20, 21, 22, 23; then 2, 3, 14, 1, 4, 5, 6, 9, 7, 10.
 
 use crate::refusal::{refuse, Offered, Refusal};
 use crate::run::{valid, UNTOUCHED};
@@ -161,7 +161,7 @@ fn content(file: &[u8], wrong: Wrong) -> Result<Content, Refused> {
     }
 }
 
-/// Block by block, 12 and then 13.
+/// Block by block, 12 and then 20 to 23.
 fn blocked(blocks: &[&[u8]], wrong: Wrong) -> Result<(), Refusal> {
     if wrong == Wrong::ChecksFirst {
         for (number, block) in blocks.iter().enumerate() {
@@ -171,8 +171,8 @@ fn blocked(blocks: &[&[u8]], wrong: Wrong) -> Result<(), Refusal> {
     for (number, block) in blocks.iter().enumerate() {
         checked(block, number, wrong)?;
         let before = if number == 0 { None } else { Some(blocks[number - 1]) };
-        if !formed(block, number, before, wrong) {
-            return refuse(13, number as u64);
+        if let Some(flaw) = flawed(block, number, before, wrong) {
+            return Err(Refusal { number: flaw.number, place: number as u64, second: flaw.offset });
         }
     }
     Ok(())
@@ -202,10 +202,18 @@ fn used(block: &[u8]) -> usize {
     two(block, 4) as usize
 }
 
-/// Number 13's parts: kind, byte 1, number, used count, source, zero fill and block order.
-fn formed(block: &[u8], number: usize, before: Option<&[u8]>, wrong: Wrong) -> bool {
+/// What is wrong with a part of a block: the number, and where in the block to look.
+#[derive(Clone, Copy, Debug, PartialEq)]
+pub struct Flaw {
+    pub number: u64,
+    pub offset: u64,
+}
+
+/// The parts of a block that are wrong, each with what is told of it, in the order in which they are told.
+pub fn flaws(block: &[u8], number: usize, before: Option<&[u8]>, wrong: Wrong) -> Vec<Flaw> {
     let kind = block[0];
     let kind_right = if number == 0 { kind == HEADER } else { kind == ROWS || kind == EVENTS };
+    let order_right = before.is_none_or(|before| ordered(before, block, wrong));
     let second_right = block[1] == 0 || wrong == Wrong::SecondByteOverlooked;
     let number_right = two(block, 2) == number as u64 || wrong == Wrong::NumberOverlooked;
     let used = used(block);
@@ -213,12 +221,79 @@ fn formed(block: &[u8], number: usize, before: Option<&[u8]>, wrong: Wrong) -> b
         0 => used == 6 || (wrong == Wrong::UsedUpToPayload && (6..=PAYLOAD).contains(&used)),
         _ => (1..=PAYLOAD).contains(&used),
     };
-    if !(kind_right && second_right && number_right && used_right) {
-        return false;
-    }
     let source_right = number > 0 || block[PAYLOAD_AT + 5] <= 1;
-    let fill_right = block[PAYLOAD_AT + used..CHECK_AT].iter().all(|byte| *byte == 0) || wrong == Wrong::FillOverlooked;
-    source_right && fill_right && before.is_none_or(|before| ordered(before, block, wrong))
+    let strays: Vec<usize> = (PAYLOAD_AT + used..CHECK_AT).filter(|place| block[*place] != 0).collect();
+    let fill_right = strays.is_empty() || wrong == Wrong::FillOverlooked;
+    let stray = match wrong {
+        Wrong::OffsetOfLastStray => strays.last(),
+        _ => strays.first(),
+    };
+    let stray = stray.map_or(0, |place| *place as u64);
+    let parts = [
+        (kind_right, 20, 0),
+        (order_right, 20, 0),
+        (second_right, 21, 1),
+        (number_right, 21, 2),
+        (used_right, 22, 4),
+        (source_right, 23, 11),
+        (fill_right, 23, stray),
+    ];
+    let mut found = Vec::new();
+    for place in order_of_parts(wrong) {
+        let (right, number, offset) = parts[place];
+        if !right {
+            found.push(Flaw { number, offset });
+        }
+    }
+    found
+}
+
+/// In which order the parts of a block are looked at: kind, order, byte 1, number, used count, source, zero
+/// fill.
+fn order_of_parts(wrong: Wrong) -> [usize; 7] {
+    match wrong {
+        Wrong::NumberBeforeKind => [2, 3, 0, 1, 4, 5, 6],
+        Wrong::OrderLast => [0, 2, 3, 4, 5, 6, 1],
+        Wrong::UsedBeforeNumber => [0, 1, 4, 2, 3, 5, 6],
+        Wrong::FillBeforeUsed => [0, 1, 2, 3, 5, 6, 4],
+        Wrong::FillBeforeNumber => [0, 1, 5, 6, 2, 3, 4],
+        Wrong::NumberBeforeByteOne => [0, 1, 3, 2, 4, 5, 6],
+        Wrong::FillBeforeSource => [0, 1, 2, 3, 4, 6, 5],
+        _ => [0, 1, 2, 3, 4, 5, 6],
+    }
+}
+
+/// The first flaw, as it is told.
+fn flawed(block: &[u8], number: usize, before: Option<&[u8]>, wrong: Wrong) -> Option<Flaw> {
+    let mut flaw = *flaws(block, number, before, wrong).first()?;
+    match wrong {
+        Wrong::ThirteenStill => flaw = Flaw { number: 13, offset: 0 },
+        Wrong::OffsetNotTold => flaw.offset = 0,
+        Wrong::OffsetInFile => flaw.offset += (BLOCK * number) as u64,
+        Wrong::OffsetInPayload if flaw.number == 23 => flaw.offset -= PAYLOAD_AT as u64,
+        Wrong::OffsetOfByteThree if flaw.offset == 2 && block[2] as usize == number % 256 => flaw.offset = 3,
+        Wrong::OffsetOfByteFive if flaw.number == 22 && block[5] > 1 => flaw.offset = 5,
+        Wrong::OffsetOfByteOne if flaw.number == 21 => flaw.offset = 1,
+        Wrong::OffsetOfSource if flaw.number == 23 => flaw.offset = 11,
+        _ => {}
+    }
+    Some(flaw)
+}
+
+/// Number 13 of document 01, which had all of that in one: whether kind, byte 1, number, used count,
+/// source, zero fill and block order are right. The files turned away are still the same.
+#[cfg(test)]
+pub fn formed(block: &[u8], number: usize, before: Option<&[u8]>) -> bool {
+    let kind = block[0];
+    let (kinds, least, most) = if number == 0 { (HEADER..=HEADER, 6, 6) } else { (ROWS..=EVENTS, 1, PAYLOAD) };
+    let used = used(block);
+    kinds.contains(&kind)
+        && block[1] == 0
+        && two(block, 2) == number as u64
+        && (least..=most).contains(&used)
+        && (number > 0 || block[PAYLOAD_AT + 5] <= 1)
+        && block[PAYLOAD_AT + used..CHECK_AT].iter().all(|byte| *byte == 0)
+        && before.is_none_or(|before| ordered(before, block, Wrong::Nothing))
 }
 
 /// Rows never follow events, and no block follows one of its own kind that is not full.

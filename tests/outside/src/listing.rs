@@ -1,8 +1,9 @@
-//! The listing's text, exactly document 01's: a header line, a line an event, and the outcome. Every
+//! The listing's text, exactly the documents': a header line, a line an event, and the outcome. Every
 //! line ends with one line feed.
 
 use crate::house;
 use crate::model::FIRST_OUTPUT;
+use crate::refusal::Refusal;
 use crate::run::{judged, Figure};
 use crate::wrong::Wrong;
 
@@ -25,12 +26,7 @@ pub fn list(file: &[u8], wrong: Wrong) -> Listed {
     let content = match house::fitted(file, ROOM, ROOM, wrong) {
         Ok(content) => content,
         Err((refusal, _)) => {
-            let [number, place, second] = refusal.told();
-            let text = match number {
-                4 if wrong != Wrong::ListingOnePlace => format!("refused {number} {place} {second}\n"),
-                _ => format!("refused {number} {place}\n"),
-            };
-            return Listed { text, outcome: REFUSED };
+            return Listed { text: refused(&refusal, wrong), outcome: REFUSED };
         }
     };
     let (figures, flag) = judged(&content.offered(), &content.events, wrong);
@@ -55,6 +51,22 @@ pub fn list(file: &[u8], wrong: Wrong) -> Listed {
         text.pop();
     }
     Listed { text, outcome }
+}
+
+/// The number and its place; for 4 row then column, for 20 to 23 block then offset.
+fn refused(refusal: &Refusal, wrong: Wrong) -> String {
+    let [number, place, second] = refusal.told();
+    let left_out = match wrong {
+        Wrong::ListingOnePlace => number == 4,
+        Wrong::ListingNoOffset => number >= 20,
+        Wrong::ListingNoLastOffset => number == 23,
+        _ => false,
+    };
+    match refusal.has_second() && !left_out {
+        true if wrong == Wrong::ListingOffsetFirst && number >= 20 => format!("refused {number} {second} {place}\n"),
+        true => format!("refused {number} {place} {second}\n"),
+        false => format!("refused {number} {place}\n"),
+    }
 }
 
 fn line(event: usize, byte: u8, figure: &Figure, wrong: Wrong) -> String {

@@ -1,10 +1,11 @@
-//! What is turned away: document 01's numbers with their places, one test each. The orders stand
+//! What is turned away: the documents' numbers with their places, one test each. The orders stand
 //! with the functions that have them.
 
 use crate::model::{MOST_LOSSES, MOST_STATES, MOST_SYMBOLS, MOST_WAITING, NOT_ALLOWED};
 use crate::wrong::Wrong;
 
-/// A number and its place; the second place is the column of number 4 and 0 otherwise.
+/// A number and its place; the second place is the column of number 4, the offset of numbers 20 to 23,
+/// and 0 otherwise.
 #[derive(Clone, Copy, Debug, PartialEq)]
 pub struct Refusal {
     pub number: u64,
@@ -15,6 +16,11 @@ pub struct Refusal {
 impl Refusal {
     pub fn told(&self) -> [u64; 3] {
         [self.number, self.place, self.second]
+    }
+
+    /// Whether the number has a second place.
+    pub fn has_second(&self) -> bool {
+        matches!(self.number, 4 | 20..=23)
     }
 }
 

@@ -1,7 +1,9 @@
-//! Document 01's worked cases, of this package's own implementation.
+//! Worked cases of documents 01 and 02, of this package's own implementation.
 
 use crate::case::{Answer, Case};
-use crate::house::{written, Content};
+use crate::file_edges;
+use crate::files::damaged_read;
+use crate::house::{flaws, formed, repair, written, Content, BLOCK};
 use crate::listing::list;
 use crate::model::{Bounds, Configuration, Event, Set, Watch};
 use crate::random::Random;
@@ -108,7 +110,7 @@ fn listing_of_four_polls() {
 fn listing_of_nothing_and_of_refusals() {
     assert_eq!(list(&file(&[]), Wrong::Nothing).text, "event symbol states waiting run\nconsistent\n");
     assert_eq!(list(&[], Wrong::Nothing).text, "refused 11 0\n");
-    assert_eq!(list(&[0; 512], Wrong::Nothing).text, "refused 13 0\n");
+    assert_eq!(list(&[0; 512], Wrong::Nothing).text, "refused 20 0 0\n");
     let mut content =
         Content { states: 2, inputs: 1, outputs: 2, waiting: 2, losses: 1, source: 1, rows: vec![], events: vec![] };
     assert_eq!(list(&written(&content), Wrong::Nothing).text, "refused 14 0\n");
@@ -116,6 +118,65 @@ fn listing_of_nothing_and_of_refusals() {
     assert_eq!(list(&written(&content), Wrong::Nothing).text, "refused 1 0\n");
     content.rows = vec![1, 255, 255, 255, 2, 0];
     assert_eq!(list(&written(&content), Wrong::Nothing).text, "refused 4 1 1\n");
+}
+
+/// The file with these bytes of block `number` changed and its check repaired, as it is listed.
+fn listed_with(number: usize, changes: &[(usize, u8)]) -> String {
+    let mut file = file(&[POLL; 4]);
+    let block = &mut file[BLOCK * number..BLOCK * (number + 1)];
+    for (place, byte) in changes {
+        block[*place] = *byte;
+    }
+    repair(block);
+    list(&file, Wrong::Nothing).text
+}
+
+#[test]
+fn parts_of_a_block_are_told_with_their_offsets() {
+    assert_eq!(listed_with(1, &[(0, 4)]), "refused 20 1 0\n");
+    assert_eq!(listed_with(2, &[(0, 2)]), "refused 20 2 0\n");
+    assert_eq!(listed_with(1, &[(1, 1)]), "refused 21 1 1\n");
+    assert_eq!(listed_with(1, &[(2, 0)]), "refused 21 1 2\n");
+    assert_eq!(listed_with(1, &[(3, 1)]), "refused 21 1 2\n");
+    assert_eq!(listed_with(2, &[(4, 0)]), "refused 22 2 4\n");
+    assert_eq!(listed_with(0, &[(5, 1)]), "refused 22 0 4\n");
+    assert_eq!(listed_with(0, &[(11, 2)]), "refused 23 0 11\n");
+    assert_eq!(listed_with(0, &[(12, 1), (509, 1)]), "refused 23 0 12\n");
+    assert_eq!(listed_with(2, &[(509, 1)]), "refused 23 2 509\n");
+}
+
+#[test]
+fn parts_of_a_block_are_told_in_their_order() {
+    let mut changes = vec![(12, 1), (11, 2), (4, 5), (2, 1), (1, 1), (0, 2)];
+    for told in ["20 0 0", "21 0 1", "21 0 2", "22 0 4", "23 0 11", "23 0 12"] {
+        assert_eq!(listed_with(0, &changes), format!("refused {told}\n"));
+        changes.pop();
+    }
+}
+
+/// Document 01's number 13 and what stands in its place turn away the same blocks: of every edge, and of
+/// damaged files by the thousand.
+#[test]
+fn the_blocks_turned_away_are_those_of_thirteen() {
+    let mut files: Vec<Vec<u8>> = Vec::new();
+    let mut random = Random::new(13);
+    let cases = file_edges::edges().into_iter().chain((0..5000).map(|_| damaged_read(&mut random)));
+    for case in cases {
+        if let Case::Read { file, .. } = case {
+            files.push(file);
+        }
+    }
+    let mut turned_away = 0;
+    for file in files {
+        let blocks: Vec<&[u8]> = file.chunks_exact(BLOCK).collect();
+        for (number, block) in blocks.iter().enumerate() {
+            let before = if number == 0 { None } else { Some(blocks[number - 1]) };
+            let found = flaws(block, number, before, Wrong::Nothing);
+            assert_eq!(found.is_empty(), formed(block, number, before));
+            turned_away += !found.is_empty() as usize;
+        }
+    }
+    assert!(turned_away > 5000);
 }
 
 #[test]

@@ -1,5 +1,5 @@
 //! The wrong monitors: one switch each, taken from document 01's slips, from the monitors that its
-//! demands shut out, from its orders and limits. The generated cases must tell every one of them
+//! demands shut out, from the orders and limits of documents 01 and 02. The generated cases must tell every one of them
 //! apart from the right implementation; a case list that cannot is too weak.
 
 macro_rules! wrong_monitors {
@@ -72,6 +72,23 @@ wrong_monitors! {
     SecondByteOverlooked: "does not look at byte 1",
     UsedUpToPayload: "lets block 0 use more than 6 bytes",
     BlocksSixteen: "reads files of 16 blocks",
+    // Which part of a block is told, and where.
+    ThirteenStill: "still gives 13",
+    NumberBeforeKind: "tests 21 before 20",
+    OrderLast: "looks at the block order after all other parts",
+    UsedBeforeNumber: "tests 22 before 21",
+    FillBeforeUsed: "tests 23 before 22",
+    FillBeforeNumber: "tests 23 before 21",
+    NumberBeforeByteOne: "looks at the number before byte 1",
+    FillBeforeSource: "looks at the fill before the source",
+    OffsetNotTold: "tells no offset",
+    OffsetOfByteOne: "tells 1 for every 21",
+    OffsetOfByteThree: "tells 3 where only the number's high byte is wrong",
+    OffsetOfByteFive: "tells 5 where the used count's high byte is wrong",
+    OffsetOfSource: "tells 11 for every 23",
+    OffsetOfLastStray: "tells the last byte that should be zero",
+    OffsetInPayload: "counts the offset of 23 from the payload's start",
+    OffsetInFile: "counts the offset from the file's start",
     // Captures.
     OrderIgnored: "reads every capture least byte first",
     LinkLowByte: "looks at the low byte of the link type only",
@@ -103,6 +120,9 @@ wrong_monitors! {
     ListingOneDash: "writes one dash for both pairs",
     ListingUnended: "leaves the last line open",
     ListingOnePlace: "leaves out the column for 4",
+    ListingNoOffset: "leaves out the offset for 20 to 23",
+    ListingNoLastOffset: "leaves out the offset for 23",
+    ListingOffsetFirst: "writes the offset before the block",
     // Clauses of soundness, each overlooked by one monitor.
     UnsoundStates: "overlooks the session's count of states",
     UnsoundInputs: "overlooks the session's count of inputs",
