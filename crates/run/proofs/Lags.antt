@@ -8,12 +8,13 @@ use native.Mathlib.Decide.{ℕ-discrete}
 use lib.Bits.{bitOr}
 use lib.ListN.{length, getD, set, length-set}
 use lib.Seq.{getD-set-same, getD-set-other}
+use Rattle.model.proofs.Flags.{lt-or-ge}
 use Rattle.states.specs.In.{In}
 use Rattle.states.specs.Rows.{Leads, Image}
 use Rattle.states.proofs.Member.{not-in-zero, in-or}
 use Rattle.states.proofs.Words.{Written}
 use Rattle.states.proofs.Same.{some-in, zero-none}
-use Rattle.run.specs.Lag.{Within, Drawn, Copied, Based, Came, FollowedFrom, DrawnFrom, HasLag, LeastLag, PastLags}
+use Rattle.run.specs.Lag.{Within, Drawn, Copied, Based, Came, FollowedFrom, DrawnFrom, Went, HasLag, LeastLag, PastLags}
 
 -- equal words have the same states
 pub same-word : {x y : ℕ} (s : ℕ) → x ≡ y → In s x ↔ In s y
@@ -232,3 +233,48 @@ module _ (words : List ℕ) (base : ℕ) where
         here = λ k. let g : base + j - 1 ≡ base + (j - 1) = omega arith in some-in (getD words (base + (j - 1)) 0) (λ z. n k (rw g z));
         none-above = h;
       }
+
+-- NOTHING ABOVE
+
+-- where nothing stands from `past` on, what is done to the lags below it is done to all
+module _ (rows : List ℕ) (width column c : ℕ) (line : List ℕ) (base n past : ℕ) (before mid after : List ℕ) (lags : PastLags before base (n + c) past)
+    (followed : FollowedFrom rows width column base past 0 before mid) (drawn : DrawnFrom rows width c line base (min n past) 0 mid after) where
+  le : past ≤ n + c
+  le = lags .most
+
+  none-mid : (j q : ℕ) → past ≤ j → j < n + c → In q (getD mid (base + j) 0) → ⊥
+  none-mid j q l m i = lags .none-above j l m (q, same-word q (followed .above (base + j) (omega arith)) .0 i)
+
+  none-after : (j q : ℕ) → past ≤ j → j < n + c → In q (getD after (base + j) 0) → ⊥
+  none-after j q l m i = none-mid j q l m (same-word q (drawn .above (base + j) (omega arith)) .0 i)
+
+  follows-all : FollowedFrom rows width column base (n + c) 0 before mid
+  follows-all =
+      record {
+        size = followed .size;
+        sent = λ j t k l. ⊎-elim (λ m. followed .sent j t k m)
+            (λ m. ((λ i. absurd (none-mid j t m l i)), (λ im. absurd (lags .none-above j m l (im .source, im .here))))) (lt-or-ge j past);
+        below = followed .below;
+        above = λ i l. followed .above i (omega (arith, le));
+      }
+
+  draws-all : DrawnFrom rows width c line base n 0 mid after
+  draws-all =
+      record {
+        size = drawn .size;
+        taken = λ w t k l. ⊎-elim (λ m. drawn .taken w t k (omega arith)) (λ m. (
+          (λ i. absurd (none-after w t m (omega arith) i)),
+          (λ u. absurd (⊎-elim (λ i. none-mid w t m (omega arith) i) (gone w m l) u)),
+        )) (lt-or-ge w past);
+        below = drawn .below;
+        above = λ i l. drawn .above i (omega arith);
+      }
+    where
+      gone : {t : ℕ} (w : ℕ) → past ≤ w → w < n → Drawn rows width (getD line (base + w) 0) c after (base + w + 1) t → ⊥
+      gone w m l d =
+          let f = d .source .few in
+          let e : base + w + 1 + d .source .lost ≡ base + (w + 1 + d .source .lost) = omega arith in
+          none-after (w + 1 + d .source .lost) (d .from) (omega arith) (omega arith) (rw e at (d .source .member))
+
+  pub went-all : Went rows width column c line base n before after
+  went-all = record { between = mid; followed = follows-all; drawn = draws-all }

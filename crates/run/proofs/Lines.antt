@@ -1,6 +1,6 @@
 -- The line of a tally is the line of the set that its words stand for. Assumes nothing.
 use mathlib.Core.Path.{_≡_, refl, sym, ap, _∙_}
-use mathlib.Core.Bool.{Bool, true, false, not}
+use mathlib.Core.Bool.{Bool, true, false}
 use mathlib.Core.List.{List}
 use mathlib.Core.Logic.{_↔_, _≢_, _⊎_, inl, inr, ⊎-elim}
 use Prim.Native.Nat.{ℕ, suc, _+_, _-_, _*_, _≤_, _<_, min}
@@ -12,11 +12,10 @@ use Rattle.model.specs.Model.{Config, cfg, Set}
 use Rattle.model.proofs.Flags.{lt-or-ge}
 use Rattle.states.specs.In.{In}
 use Rattle.states.proofs.Member.{not-in-zero}
-use Rattle.states.proofs.Same.{some-in, zero-none}
 use Rattle.run.specs.declared.lag.Tally.{Tally}
 use Rattle.run.specs.Lag.{Lagged, HasLag, Tallied, from-least, from-most, line-of}
 use Rattle.run.specs.Run.{Lowest, Highest, StateOf, WaitingOf, RunOf, Line, Put}
-use Rattle.run.specs.Trace.{Finds, empty-line, Emptied}
+use Rattle.run.specs.Trace.{empty-line, Emptied}
 
 module _ (words : List ℕ) (base n c : ℕ) (pos : 0 < c) (t : Tally) (tally : Tallied words base (n + c) t) where
   -- a lag may be split between waiting and lost in any way that the bounds allow
@@ -120,22 +119,6 @@ module _ (words : List ℕ) (base n c : ℕ) (pos : 0 < c) (t : Tally) (tally : 
         most-run-is = most-run-is (eqb (t .past) 0) refl;
         bytes-are = refl;
       }
-
-  -- a tally with a state has found something
-  pub finds : Finds (Lagged words base n c) (not (eqb (t .states) 0))
-  finds = go (eqb (t .states) 0) refl
-    where
-      go : (b : Bool) → eqb (t .states) 0 ≡ b → Finds (Lagged words base n c) (not b)
-      go true e =
-          record {
-            yes = λ h. absurd (let z : _≡_ {A = ℕ} 0 1 = cc in omega arith);
-            no = λ h x i. zero-none (eqb-true (t .states) 0 e) (x .state) (states-are (x .state) .1 (x, i, refl));
-          }
-      go false e =
-          record {
-            yes = λ h. let (q, m) = some-in (t .states) (eqb-false (t .states) 0 e) in let (x, i, k) = states-are q .0 m in (x, i);
-            no = λ h. absurd (let z : _≡_ {A = ℕ} 0 1 = cc in omega arith);
-          }
 
 -- NOTHING
 

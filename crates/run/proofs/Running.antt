@@ -1,12 +1,14 @@
 -- A run, event by event: the words by lag hold the plausible set, and the lines written are those of the plausible sets. Assumes nothing.
 use mathlib.Core.Path.{_≡_, refl, sym, _∙_, ap}
-use mathlib.Core.Bool.{Bool, true, false}
+use mathlib.Core.Bool.{Bool, true, false, not}
 use mathlib.Core.List.{List, [], _∷_, _++_, append-nil}
-use mathlib.Core.Logic.{_↔_, _⊎_, inl, inr, ⊎-elim}
+use mathlib.Core.Logic.{_↔_, _≢_, _⊎_, inl, inr, ⊎-elim}
 use mathlib.Core.Option.{Option, some, none}
 use Prim.Native.Nat.{ℕ, zero, suc, _+_, _-_, _*_, _≤_, _<_, min}
 use native.Mathlib.Omega.{arith}
 use native.Mathlib.Numerals.{add-one}
+use lib.Dec.{eqb}
+use borrow.Author.Tests.{eqb-true, eqb-false, ne-eqb}
 use lib.ListN.{length, getD, take, set, length-set, length-take, length-append, drop, take-append-drop}
 use lib.Seq.{take-suc, take-all, take-add, take-append-le, take-length, getD-set-same, getD-set-other}
 use Rattle.model.specs.Table.{Table, Valid, Bounded}
@@ -30,8 +32,8 @@ use Rattle.monitor.specs.Laws.{place-of}
 use Rattle.monitor.proofs.Laws.{opening-passes}
 use Rattle.run.specs.declared.trace.Place.{Place}
 use Rattle.run.specs.Run.{Line, At, RunTo, Followed}
-use Rattle.run.specs.Lag.{Lagged, Came, Went}
-use Rattle.run.specs.Trace.{Stepped, came, went, Finds, Recorded, empty-line, Emptied}
+use Rattle.run.specs.Lag.{Lagged, Came, Went, PastLags}
+use Rattle.run.specs.Trace.{Stepped, came, went, Recorded, empty-line, Emptied}
 use Rattle.run.proofs.Moves.{input-plausible, input-heads, input-small, output-plausible}
 use Rattle.run.proofs.Lines.{empty-is}
 use Rattle.run.proofs.Whole.{line-same}
@@ -41,6 +43,18 @@ pub stepped-room : (rows : List ℕ) (i o B c b : ℕ) (p : Place) (words line :
     → Stepped rows i o B c b p words line q words′ line′ → (q .base ≤ 64) × (q .count ≤ B)
 stepped-room rows i o B c b p words line q words′ line′ low few (came e count cm) = (omega (arith, cm .low), omega arith)
 stepped-room rows i o B c b p words line q words′ line′ low few (went e long wt) = (low, few)
+
+-- with a lag there is a member, and with none there is none
+module _ (words : List ℕ) (base n c past : ℕ) (lags : PastLags words base (n + c) past) where
+  pub some-lagged : 0 < c → 0 < past → (x : Config ℕ) × Lagged words base n c x
+  some-lagged pos l =
+      let (q, m) = lags .here l in
+      let le = lags .most in
+      let e : min (past - 1) n + (past - 1 - min (past - 1) n) ≡ past - 1 = omega arith in
+      (cfg q (min (past - 1) n) (past - 1 - min (past - 1) n), record { room = omega arith; few = omega arith; member = rw e m })
+
+  pub none-lagged : past ≡ 0 → (x : Config ℕ) → Lagged words base n c x → ⊥
+  none-lagged z x y = lags .none-above (x .waiting + x .run) (omega arith) (omega (arith, y .room, y .few)) (x .state, y .member)
 
 -- BEFORE ANY EVENT
 
@@ -74,6 +88,14 @@ first-lagged c pos x = (to, from)
     from : x ≡ cfg 0 0 0 → Lagged first-words 64 0 c x
     from e = rw e zero-in
 
+pub first-lags : (c : ℕ) → 0 < c → PastLags first-words 64 (0 + c) 1
+first-lags c pos =
+    record {
+      most = omega arith;
+      here = λ l. (0, rw (getD-set-same (zeros 104) 64 1 0 (rw length-zeros (omega arith))) (in-pow 0 0 .1 refl));
+      none-above = λ j l m (q, i). not-in-zero q (rw (getD-set-other (zeros 104) 64 (64 + j) 1 0 (λ e. omega arith) ∙ zeros-at 104 (64 + j)) at i);
+    }
+
 -- THE TRACE
 
 -- a flag stays where it fell
@@ -100,9 +122,10 @@ pub record Kept (rows : List ℕ) (s i o B c : ℕ) (bytes words : List ℕ) (p 
 
 module _ (rows : List ℕ) (i o B c : ℕ) (trace before : List ℕ) where
   -- after k events the words hold the plausible set, and the lines up to here are written
-  pub record Following (words line : List ℕ) (p : Place) (k : ℕ) (out : List ℕ) (found : Bool) : Type 0 where
+  pub record Following (words line : List ℕ) (p : Place) (k : ℕ) (out : List ℕ) (past : ℕ) : Type 0 where
     pub some-of : k ≤ length trace
-    pub begun : found ≡ false → 0 < k
+    pub begun : past ≡ 0 → 0 < k
+    pub lags : PastLags words (p .base) (p .count + c) past
     pub count : p .count ≡ min B (length (inputs-in trace k))
     pub low : p .base ≤ 64
     pub words-long : length words ≡ 104
@@ -111,15 +134,16 @@ module _ (rows : List ℕ) (i o B c : ℕ) (trace before : List ℕ) where
     pub small : (w : ℕ) → w < p .count → getD line (p .base + w) 0 < i
     pub size : length out ≡ length before
     pub rest : (q : ℕ) → 12 * k ≤ q → getD out q 0 ≡ getD before q 0
-    pub kept : (s : ℕ) → opening rows s i o B c ≡ Passed → Kept rows s i o B c (take k trace) words p found
+    pub kept : (s : ℕ) → opening rows s i o B c ≡ Passed → Kept rows s i o B c (take k trace) words p (not (eqb past 0))
     pub lines : (s : ℕ) → opening rows s i o B c ≡ Passed → (j : ℕ) → j < k
         → (bytes : List ℕ) × Line (Plausible (box (table-of rows s i o)) B c (events (take (suc j) trace))) bytes × At (12 * j) bytes out
 
-  pub following-none : (words line : List ℕ) → words ≡ first-words → length line ≡ 104 → 0 < c → Following words line (record { base = 64; count = 0 }) 0 before true
+  pub following-none : (words line : List ℕ) → words ≡ first-words → length line ≡ 104 → 0 < c → Following words line (record { base = 64; count = 0 }) 0 before 1
   following-none words line e ll pos =
       record {
         some-of = omega arith;
-        begun = λ e. absurd (let z : _≡_ {A = ℕ} 0 1 = cc in omega arith);
+        begun = λ e. absurd (omega arith);
+        lags = rw e (first-lags c pos);
         count = omega arith;
         low = omega arith;
         words-long = ap length e ∙ length-set (zeros 104) 64 1 ∙ length-zeros 104;
@@ -138,7 +162,7 @@ module _ (rows : List ℕ) (i o B c : ℕ) (trace before : List ℕ) where
       }
 
   -- one event more
-  module _ (words line : List ℕ) (p : Place) (k : ℕ) (out : List ℕ) (here : k < length trace) (h : Following words line p k out true) where
+  module _ (words line : List ℕ) (p : Place) (k : ℕ) (out : List ℕ) (past : ℕ) (here : k < length trace) (some-left : 0 < past) (h : Following words line p k out past) where
     b : ℕ
     b = getD trace k 0
 
@@ -210,8 +234,8 @@ module _ (rows : List ℕ) (i o B c : ℕ) (trace before : List ℕ) where
     left few words′ line′ p′ (came {a = a} e count cm) = left-input few a p′ words′ line′ e count cm
     left few words′ line′ p′ (went {a = a} e long wt) = left-output a words′ e long wt
 
-    module _ (few : B ≤ 32) (words′ line′ : List ℕ) (p′ : Place) (out′ : List ℕ) (found : Bool) (st : Stepped rows i o B c (getD trace k 0) p words line p′ words′ line′)
-        (rec : Recorded words′ p′ c k out out′ found) where
+    module _ (few : B ≤ 32) (words′ line′ : List ℕ) (p′ : Place) (out′ : List ℕ) (past′ : ℕ) (st : Stepped rows i o B c (getD trace k 0) p words line p′ words′ line′)
+        (rec : Recorded words′ p′ c k out out′ past′) where
       l : Left words′ line′ p′
       l = left few words′ line′ p′ st
 
@@ -222,15 +246,19 @@ module _ (rows : List ℕ) (i o B c : ℕ) (trace before : List ℕ) where
         longer : length (take (k + 1) trace) ≡ k + 1
         longer = simp length-take (omega arith)
 
-        flag-now : (found : Bool) → Finds (Lagged words′ (p′ .base) (p′ .count) c) found
-            → FlagIs (box (table-of rows s i o)) B c (events (take (k + 1) trace)) (place-by found (length (take (k + 1) trace)))
-        flag-now true f =
-            let (x, y) = f .yes refl in
-            rw events-more (flag-none (box (table-of rows s i o)) B c (events (take k trace)) (event (getD trace k 0)) (h .kept s passes .flag) (x, rw events-more at (now x .0 y)))
-        flag-now false f =
-            let e : length (events (take k trace)) ≡ length (take (k + 1) trace) - 1 = events-length (take k trace) ∙ simp length-take (omega arith) in
-            let fallen = flag-falls (box (table-of rows s i o)) B c (events (take k trace)) (event (getD trace k 0)) (h .kept s passes .flag) (λ x y. f .no refl x (now x .1 (rw events-more y))) in
-            rw events-more (rw e at fallen)
+        was-none : FlagIs (box (table-of rows s i o)) B c (events (take k trace)) none
+        was-none = let e : eqb past 0 ≡ false = ne-eqb past 0 (λ z. omega arith) in rw e at (h .kept s passes .flag)
+
+        flag-now : (b : Bool) → eqb past′ 0 ≡ b → FlagIs (box (table-of rows s i o)) B c (events (take (k + 1) trace)) (place-by (not b) (length (take (k + 1) trace)))
+        flag-now false e =
+            let z : past′ ≢ 0 = eqb-false past′ 0 e in
+            let (x, y) = some-lagged words′ (p′ .base) (p′ .count) c past′ (rec .lags) (opening-passes rows s i o B c .0 passes .1 .losses .0) (omega arith) in
+            rw events-more (flag-none (box (table-of rows s i o)) B c (events (take k trace)) (event (getD trace k 0)) was-none (x, rw events-more at (now x .0 y)))
+        flag-now true e =
+            let l : length (events (take k trace)) ≡ length (take (k + 1) trace) - 1 = events-length (take k trace) ∙ simp length-take (omega arith) in
+            let fallen = flag-falls (box (table-of rows s i o)) B c (events (take k trace)) (event (getD trace k 0)) was-none
+            (λ x y. none-lagged words′ (p′ .base) (p′ .count) c past′ (rec .lags) (eqb-true past′ 0 e) x (now x .1 (rw events-more y))) in
+            rw events-more (rw l at fallen)
 
         line-now : Line (Plausible (box (table-of rows s i o)) B c (events (take (suc k) trace))) (rec .line)
         line-now =
@@ -243,12 +271,13 @@ module _ (rows : List ℕ) (i o B c : ℕ) (trace before : List ℕ) where
             old : j < k → (bytes : List ℕ) × Line (Plausible (box (table-of rows s i o)) B c (events (take (suc j) trace))) bytes × At (12 * j) bytes out′
             old m = let (bytes, is, at) = h .lines s passes j m in (bytes, is, λ p q. rec .put .below (12 * j + p) (omega arith) ∙ at p q)
 
-      pub following-more : Following words′ line′ p′ (k + 1) out′ found
+      pub following-more : Following words′ line′ p′ (k + 1) out′ past′
       unfolding l
       following-more =
           record {
             some-of = omega arith;
             begun = λ e. omega arith;
+            lags = rec .lags;
             count = l .count;
             low = l .low;
             words-long = l .words-long;
@@ -257,22 +286,22 @@ module _ (rows : List ℕ) (i o B c : ℕ) (trace before : List ℕ) where
             small = l .small;
             size = rec .put .size ∙ h .size;
             rest = λ q m. rec .put .above q (omega arith) ∙ h .rest q (omega arith);
-            kept = λ s passes. record { plausible = now s passes; flag = flag-now s passes found (rec .finds) };
+            kept = λ s passes. record { plausible = now s passes; flag = flag-now s passes (eqb past′ 0) refl };
             lines = line-at;
           }
 
   -- after all of them
-  pub run-end : (words line : List ℕ) (p : Place) (k : ℕ) (out : List ℕ) → k ≡ length trace → Following words line p k out true → Followed rows i o B c trace before out flag.None
-  run-end words line p k out e h s passes =
+  pub run-end : (words line : List ℕ) (p : Place) (k : ℕ) (out : List ℕ) (past : ℕ) → k ≡ length trace → 0 < past → Following words line p k out past → Followed rows i o B c trace before out flag.None
+  run-end words line p k out past e some-left h s passes =
       record {
         size = h .size;
         lines = λ j l. h .lines s passes j (omega arith);
         rest = λ q l. h .rest q (omega arith);
-        flag = let a : take k trace ≡ trace = rw e (take-length trace) in rw a at (h .kept s passes .flag);
+        flag = let a : take k trace ≡ trace = rw e (take-length trace) in let z : eqb past 0 ≡ false = ne-eqb past 0 (λ q. omega arith) in rw (a, z) at (h .kept s passes .flag);
       }
 
   -- after the first that left nothing
-  module _ (words line : List ℕ) (p : Place) (k : ℕ) (out after : List ℕ) (h : Following words line p k out false) (em : Emptied k (length trace) out after) (s : ℕ)
+  module _ (words line : List ℕ) (p : Place) (k : ℕ) (out after : List ℕ) (past : ℕ) (none-left : past ≡ 0) (h : Following words line p k out past) (em : Emptied k (length trace) out after) (s : ℕ)
       (passes : opening rows s i o B c ≡ Passed) where
     D : Device
     D = box (table-of rows s i o)
@@ -281,11 +310,11 @@ module _ (rows : List ℕ) (i o B c : ℕ) (trace before : List ℕ) where
     len = simp length-take (omega (arith, h .some-of))
 
     fallen : FlagIs (box (table-of rows s i o)) B c (events (take k trace)) (some (k - 1))
-    fallen = rw len at (h .kept s passes .flag)
+    fallen = let z : eqb past 0 ≡ true = rw none-left in rw (len, z) at (h .kept s passes .flag)
 
     -- an event came, after which the set was empty
     came-one : 0 < k
-    came-one = h .begun refl
+    came-one = h .begun none-left
 
     empty : Empty (box (table-of rows s i o)) B c (events (take k trace))
     empty =
@@ -322,6 +351,6 @@ module _ (rows : List ℕ) (i o B c : ℕ) (trace before : List ℕ) where
           flag = whole-flag;
         }
 
-  pub run-flagged : (words line : List ℕ) (p : Place) (k : ℕ) (out after : List ℕ) → Following words line p k out false → Emptied k (length trace) out after
+  pub run-flagged : (words line : List ℕ) (p : Place) (k : ℕ) (out after : List ℕ) (past : ℕ) → past ≡ 0 → Following words line p k out past → Emptied k (length trace) out after
       → Followed rows i o B c trace before after (flag.At (k - 1))
-  run-flagged words line p k out after h em s passes = flagged-run words line p k out after h em s passes
+  run-flagged words line p k out after past none-left h em s passes = flagged-run words line p k out after past none-left h em s passes

@@ -1,15 +1,13 @@
 -- What one event does to a run, as the code does it. Assumes nothing.
 use mathlib.Core.Path.{_≡_}
-use mathlib.Core.Bool.{Bool, true, false}
 use mathlib.Core.List.{List, [], _∷_, _++_}
 use Prim.Native.Nat.{ℕ, _+_, _*_, _≤_, _<_, min}
 use lib.ListN.{length, getD}
-use Rattle.model.specs.Model.{Config, Set}
 use Rattle.table.specs.Bytes.{symbol-of}
 use Rattle.table.specs.declared.answer.Symbol.the-variants.{Input, Output}
 use Rattle.run.specs.declared.trace.Place.{Place}
 use Rattle.run.specs.Run.{number, Line, Put, At}
-use Rattle.run.specs.Lag.{Lagged, Came, Went}
+use Rattle.run.specs.Lag.{Lagged, Came, Went, PastLags}
 
 -- One valid event more: an input, or an output.
 pub data Stepped (rows : List ℕ) (i o B c b : ℕ) (p : Place) (words line : List ℕ) : Place → List ℕ → List ℕ → Type 0 where
@@ -18,17 +16,12 @@ pub data Stepped (rows : List ℕ) (i o B c b : ℕ) (p : Place) (words line : L
   went : {a : ℕ} {words′ : List ℕ} → symbol-of b i o ≡ Output a → length words′ ≡ 104
       → Went rows (i + o) (i + a) c line (p .base) (p .count) words words′ → Stepped rows i o B c b p words line p words′ line
 
--- Whether a set has a configuration: with a witness, or with none at all.
-pub record Finds (S : Set ℕ) (found : Bool) : Type 0 where
-  pub yes : found ≡ true → (x : Config ℕ) × S x
-  pub no : found ≡ false → (x : Config ℕ) → S x → ⊥
-
--- The line of the set is written for event k, and whether there is anything is told.
-pub record Recorded (words : List ℕ) (p : Place) (c k : ℕ) (before after : List ℕ) (found : Bool) : Type 0 where
+-- The line of the set is written for event k, and one more than its greatest lag is told, 0 where there is nothing.
+pub record Recorded (words : List ℕ) (p : Place) (c k : ℕ) (before after : List ℕ) (past : ℕ) : Type 0 where
   pub line : List ℕ
   pub put : Put (12 * k) line before after
   pub of-set : Line (Lagged words (p .base) (p .count) c) line
-  pub finds : Finds (Lagged words (p .base) (p .count) c) found
+  pub lags : PastLags words (p .base) (p .count + c) past
 
 -- The line of nothing.
 abbrev pub empty-line : List ℕ

@@ -5,7 +5,7 @@
 // the newest first, so that the head of a line of w + 1 is at place w.
 ghost use mathlib.Core.Path.{_≡_};
 ghost use mathlib.Core.Logic.{_↔_};
-ghost use Prim.Native.Nat.{ℕ, _+_, _≤_, _<_};
+ghost use Prim.Native.Nat.{ℕ, _+_, _≤_, _<_, min};
 ghost use lib.ListN.{length, getD};
 ghost use Rattle.states.specs.In.{In};
 ghost use Rattle.run.specs.Column.{Ready};
@@ -176,12 +176,21 @@ fn draw<'a>(
     }
 }
 
-// An output is seen, which stands in this column. The line has n inputs.
+// The lesser of two.
+fn lesser(a: usize, b: usize) -> usize
+    ensures { λ r. ⌜ r ≡ min a b ⌝ }
+{
+    if a < b { a } else { b }
+}
+
+// An output is seen, which stands in this column. The line has n inputs, and from the lag `past` on there is nothing: neither is anything
+// there afterwards.
 pub(crate) fn sent<'a>(
     words: &mut [u64; 104],
     line: &'a [u8; 104],
     base: usize,
     n: usize,
+    past: usize,
     columns: &'a [u64; 160],
     rows: &'a [u8],
     width: u8,
@@ -190,10 +199,20 @@ pub(crate) fn sent<'a>(
 )
     requires { ⌜ (base ≤ 64) × (n ≤ 32) × (c ≤ 8) × (length (now words) ≡ 104) × (column < width) × (width ≤ 32) × Ready (now rows) width width (now columns) ⌝ }
     requires { ⌜ ((w : ℕ) → w < n → getD (now line) (base + w) 0 < width) ⌝ }
+    requires { ⌜ PastLags (now words) base (n + c) past ⌝ }
     ensures { λ _. ⌜ Went (now (rows .entry)) width column c (now (line .entry)) base n (now (words .entry)) (now (words .exit)) ⌝ }
 {
-    follow(&mut *words, base, n + c, columns, rows, width, column);
-    draw(&mut *words, line, base, n, columns, rows, width, c);
+    follow(&mut *words, base, past, columns, rows, width, column);
+    draw(
+        &mut *words,
+        line,
+        base,
+        lesser(n, past),
+        columns,
+        rows,
+        width,
+        c,
+    );
 }
 
 // THE TALLY

@@ -6,6 +6,7 @@ ghost use Rattle.model.specs.Limits.{most-events};
 ghost use Rattle.table.specs.Bytes.{symbol-of};
 ghost use Rattle.table.specs.declared.answer.Symbol.the-variants.{Invalid};
 ghost use Rattle.run.specs.Column.{Ready};
+ghost use Rattle.run.specs.Lag.{PastLags};
 ghost use Rattle.run.specs.Run.{Followed};
 ghost use Rattle.run.specs.Trace.{Stepped, Recorded};
 use crate::column;
@@ -28,11 +29,12 @@ fn grown(n: usize, most: usize) -> usize
     if n < most { n + 1 } else { most }
 }
 
-// One valid event more.
+// One valid event more. Before it, from the lag `past` on there was nothing.
 fn step<'a>(
     words: &mut [u64; 104],
     line: &mut [u8; 104],
     at: Place,
+    past: usize,
     columns: &'a [u64; 160],
     rows: &'a [u8],
     inputs: u8,
@@ -45,6 +47,7 @@ fn step<'a>(
     requires { ⌜ (symbol-of byte inputs outputs ≡ Invalid → ⊥) ⌝ }
     requires { ⌜ Ready (now rows) (inputs + outputs) (inputs + outputs) (now columns) ⌝ }
     requires { ⌜ ((w : ℕ) → w < at .count → getD (now line) (at .base + w) 0 < inputs) ⌝ }
+    requires { ⌜ PastLags (now words) (at .base) (at .count + c) past ⌝ }
     ensures { λ r. ⌜ Stepped (now (rows .entry)) inputs outputs most c byte at (now (words .entry)) (now (line .entry)) r (now (words .exit)) (now (line .exit)) ⌝ }
 {
     let symbol = table::event(byte, inputs, outputs);
@@ -71,6 +74,7 @@ fn step<'a>(
                 &*line,
                 at.base,
                 at.count,
+                past,
                 columns,
                 rows,
                 inputs + outputs,
@@ -83,15 +87,15 @@ fn step<'a>(
     }
 }
 
-// The line of the set is written for event k; the answer is whether anything is plausible.
-fn recorded(words: &[u64; 104], at: Place, c: usize, out: &mut [u8], k: usize) -> bool
+// The line of the set is written for event k; the answer is one more than its greatest lag, and 0 where nothing is plausible.
+fn recorded(words: &[u64; 104], at: Place, c: usize, out: &mut [u8], k: usize) -> usize
     requires { ⌜ (at .base ≤ 64) × (at .count ≤ 32) × (0 < c) × (c ≤ 8) × (k < most-events) × (12 * k + 12 ≤ length (now out)) ⌝ }
-    ensures { λ found. ⌜ Recorded (now (words .entry)) at c k (now (out .entry)) (now (out .exit)) found ⌝ }
+    ensures { λ past. ⌜ Recorded (now (words .entry)) at c k (now (out .entry)) (now (out .exit)) past ⌝ }
 {
     let t = lag::tally_of(words, at.base, at.count + c);
-    let found = t.states != 0;
+    let past = t.past;
     line::put(&mut *out, 12 * k, line::line(t, at.count as u8, c as u8));
-    found
+    past
 }
 
 // All events of a trace that passed its tests. The flag falls at the first after which nothing is plausible; from then on nothing is.
@@ -114,13 +118,14 @@ pub(crate) fn followed<'a>(
     words[64] = 1;
     let mut line = [0u8; 104];
     let mut at = Place { base: 64, count: 0 };
-    let mut found = true;
+    let mut past: usize = 1;
     let mut k: usize = 0;
-    while found && k < trace.len() {
+    while 0 < past && k < trace.len() {
         at = step(
             &mut words,
             &mut line,
             at,
+            past,
             &columns,
             rows,
             inputs,
@@ -129,10 +134,10 @@ pub(crate) fn followed<'a>(
             c,
             trace[k],
         );
-        found = recorded(&words, at, c, &mut *out, k);
+        past = recorded(&words, at, c, &mut *out, k);
         k += 1;
     }
-    if found {
+    if 0 < past {
         return Flag::None;
     }
     line::emptied(&mut *out, k, trace.len());

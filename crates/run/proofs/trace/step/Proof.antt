@@ -52,7 +52,7 @@ sent-requires : tie.Need-sent-requires
 sent-requires c κs =
     let p = c .before .before .before .before .before .before .before .pre in
     let l = given-means _ _ _ _ .1 (sym (c .before .before .before .before .before .event .ensures) ∙ c .before .before .before .symbol2 .given .1) .1 in
-    ((p .0 .0, omega arith, p .0 .3, p .0 .6, omega (arith, l), omega arith, p .1 .1 .0), λ w k. let m = p .1 .1 .1 w k in omega arith)
+    ((p .0 .0, omega arith, p .0 .3, p .0 .6, omega (arith, l), omega arith, p .1 .1 .0), ((λ w k. let m = p .1 .1 .1 .0 w k in omega arith), p .1 .1 .1 .1))
 
 -- src/trace.rt:75:28
 enum-told : tie.Need-enum-told
