@@ -6,6 +6,7 @@ mod Words
 mod Steps
 pub mod Padded
 mod Clauses
+mod Passes
 mod Lines
 mod Feeding
 pub mod Openings

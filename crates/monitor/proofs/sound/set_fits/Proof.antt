@@ -1,9 +1,6 @@
-use borrow.Author.Tests.{not-false}
-use Rattle.monitor.proofs.Clauses.{Fitting, fitting-more, fitting-all, fits-cell}
-use Rattle.monitor.specs.Session.{SetFits}
-use Rattle.states.proofs.Answers.{said, denied, fails}
+use Rattle.monitor.proofs.Passes.{set-decided}
+use Prim.Native.Nat.{ℕ, _+_, _-_, _*_, _/_, _%_, _≤_, _<_, min}
 use lib.ListN.{length, getD, take}
-use Prim.Native.Nat.{ℕ, _+_, _-_, _*_, _/_, _%_, _≤_, _<_}
 use mathlib.Core.Path.{_≡_, refl, sym, _∙_, ap}
 use native.Mathlib.Omega.{arith}
 use borrow.Author.Needs.{needs}
@@ -11,62 +8,59 @@ use Rattle.monitor.proofs.sound.set_fits.Statement.{statement}
 use Rattle.monitor.proofs.sound.set_fits.Tie as tie
 use Rattle.monitor.proofs.sound.set_fits.Reads as reads
 use Rattle.monitor.proofs.sound.set_fits.Lts as lts
-use Rattle.monitor.proofs.sound.cell_fits.Reads as cell-fits-reads
+use Rattle.monitor.proofs.sound.both.Reads as both-reads
+use Rattle.monitor.proofs.sound.by_run.Reads as by-run-reads
+use Rattle.monitor.proofs.sound.clear_from.Reads as clear-from-reads
+use Rattle.monitor.proofs.sound.held_count.Reads as held-count-reads
+use Rattle.monitor.proofs.sound.room.Reads as room-reads
+use Rattle.monitor.proofs.sound.runs_fit.Reads as runs-fit-reads
 
-abbrev Inv-loop : tie.InvT-loop
-Inv-loop set states waiting losses arrived k₀ k = (k ≤ 264) × Fitting set states waiting losses arrived k
+-- src/sound.rt:200:20
+held-count-requires : tie.Need-held-count-requires
+held-count-requires c κs = search needs
 
-abbrev μ-loop : tie.MeasureT-loop
-μ-loop set states waiting losses arrived k₀ k = 264 - k
+-- src/sound.rt:200:9
+room-requires : tie.Need-room-requires
+room-requires c κs = search needs
 
--- src/sound.rt:87:5
-loop-holds : tie.Need-loop-holds Inv-loop μ-loop
-loop-holds c = (omega arith, λ i l. absurd (omega arith))
+-- src/sound.rt:202:18
+by-run-requires : tie.Need-by-run-requires
+by-run-requires c κs = search needs
 
--- src/sound.rt:88:23
-mul-cell-fits : tie.Need-mul-cell-fits Inv-loop μ-loop
-mul-cell-fits c = search needs
+-- src/sound.rt:202:9
+runs-fit-requires : tie.Need-runs-fit-requires
+runs-fit-requires c κs = search needs
 
--- src/sound.rt:88:23
-element-copy-out-cell-fits : tie.Need-element-copy-out-cell-fits Inv-loop μ-loop
-element-copy-out-cell-fits c = search needs
+-- src/sound.rt:203:25
+mul-clear-from : tie.Need-mul-clear-from
+mul-clear-from c = search needs
 
--- src/sound.rt:88:13
-cell-fits-requires : tie.Need-cell-fits-requires Inv-loop μ-loop
-cell-fits-requires c κs = search needs
+-- src/sound.rt:203:25
+add-clear-from : tie.Need-add-clear-from
+add-clear-from c = search needs
 
--- src/sound.rt:89:13
-returns : tie.Need-returns Inv-loop μ-loop
-returns c = fails (c .before .cell-fits .ensures) (c .if1 .taken) (fits-cell _ _ _ _ _ (c .before .before .before .before .loop .k) (omega arith))
+-- src/sound.rt:203:9
+clear-from-requires : tie.Need-clear-from-requires
+clear-from-requires c κs = search needs
 
--- src/sound.rt:91:9
-add-k : tie.Need-add-k Inv-loop μ-loop
-add-k c = search needs
+-- src/sound.rt:201:5
+both-requires : tie.Need-both-requires
+both-requires c κs = search needs
 
--- src/sound.rt:87:5
-loop-less : tie.Need-loop-less Inv-loop μ-loop
-loop-less c = search needs
-
--- src/sound.rt:87:5
-loop-again : tie.Need-loop-again Inv-loop μ-loop
-loop-again c = (omega arith, fitting-more (c .before .before .before .before .before .args .set .now) _ _ _ _ (c .before .before .before .before .loop .k) (c .before .before .before .before .loop .inv .1) (c .before .cell-fits .ensures .yes (not-false _ (c .if1 .left))))
-
--- src/sound.rt:83:1
-returns-2 : tie.Need-returns-2 Inv-loop μ-loop
-returns-2 c = let e : c .before .loop .k ≡ 264 = omega arith in said (fitting-all _ _ _ _ _ (rw e at (c .before .loop .inv .1)))
+-- src/sound.rt:197:1
+returns : tie.Need-returns
+returns c = let len : length (c .before .before .before .before .before .before .before .args .set .now) ≡ 264 = search needs in let m : c .before .before .before .before .before .room .result ≡ min (min (c .before .before .before .before .before .before .before .args .waiting) (c .before .before .before .before .before .before .before .args .arrived)) 32 = rw (← (c .before .before .before .before .before .before .held-count .ensures)) (c .before .before .before .before .before .room .ensures) in set-decided (c .before .before .before .before .before .before .before .args .set .now) (c .before .before .before .before .by-run .result) _ _ _ _ _ len m (c .before .before .before .before .by-run .ensures) (c .before .before .before .runs-fit .ensures) (c .before .clear-from .ensures) (c .both .ensures)
 
 pub set-fits-spec : {M : Type 1} → statement M
 set-fits-spec =
     tie.close
     (tie.spec
-    Inv-loop
-    μ-loop
-    loop-holds
-    mul-cell-fits
-    element-copy-out-cell-fits
-    cell-fits-requires
-    returns
-    add-k
-    loop-less
-    loop-again
-    returns-2)
+    held-count-requires
+    room-requires
+    by-run-requires
+    runs-fit-requires
+    mul-clear-from
+    add-clear-from
+    clear-from-requires
+    both-requires
+    returns)
