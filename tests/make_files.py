@@ -9,8 +9,9 @@ refusal that it is there for, or what a good file holds; the reader must come to
 """
 
 import sys
-import tempfile
 from pathlib import Path
+
+import stored
 
 CRATE = Path(__file__).resolve().parent.parent / "crates" / "filecases"
 
@@ -683,66 +684,5 @@ def short(found):
     return found if isinstance(found, str) else f"good, with {len(found[1])} rows and {len(found[2])} events"
 
 
-def write(folder):
-    """Writes the files, the arguments and what the program must write; returns the faults of the cases, by name."""
-    faults = {}
-    written = []
-    (folder / "data").mkdir(parents=True, exist_ok=True)
-    for name, data, expected in cases():
-        if name in faults:
-            raise ValueError(f"{name}: there are two")
-        faults[name] = fault(name, data, expected)
-        (folder / "data" / name).write_bytes(data)
-        written += lines(name, data)
-    (folder / "args").write_text("".join(f"{name}\n" for name in faults))
-    (folder / "stdout").write_text("".join(f"{line}\n" for line in written))
-    return faults
-
-
-def same(made, kept):
-    return kept.is_file() and made.read_bytes() == kept.read_bytes()
-
-
-def check():
-    """Compares what is stored with what is made anew, file by file."""
-    passed = 0
-    failed = []
-    with tempfile.TemporaryDirectory() as place:
-        made = Path(place)
-        for name, wrong in write(made).items():
-            if wrong:
-                failed.append(wrong)
-            elif not same(made / "data" / name, CRATE / "data" / name):
-                failed.append(f"data/{name}: differs from what is made")
-            else:
-                passed += 1
-        for name in ("args", "stdout"):
-            if same(made / name, CRATE / name):
-                passed += 1
-            else:
-                failed.append(f"{name}: differs from what is made")
-        wanted = {path.name for path in (made / "data").glob("*")}
-        kept = {path.name for path in (CRATE / "data").glob("*")}
-        failed += [f"data/{name}: no case makes it" for name in sorted(kept - wanted)]
-    for line in failed:
-        print(line)
-    print(f"{passed} passed, {len(failed)} failed")
-    return 1 if failed else 0
-
-
-def main(words):
-    if words == ["--check"]:
-        return check()
-    if words:
-        print(__doc__)
-        return 2
-    for path in (CRATE / "data").glob("*"):
-        path.unlink()
-    wrong = [text for text in write(CRATE).values() if text]
-    for text in wrong:
-        print(text)
-    return 1 if wrong else 0
-
-
 if __name__ == "__main__":
-    sys.exit(main(sys.argv[1:]))
+    sys.exit(stored.main(sys.argv[1:], __doc__, CRATE, cases, fault, lines))
