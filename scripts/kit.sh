@@ -33,15 +33,42 @@ kit_build() { # NAME
     return 1
   fi
   rm -f "$log"
+  # Where only times changed, it is left as it was, and would be taken for old again.
+  touch "$program"
 }
 
 # Runs the program NAME with these words.
 kit_run() { # NAME [WORD...]
-  local program=$kit_root/target/bin/$1 emulator=$kit_tools/bin/qemu-x86_64
+  local program=$kit_root/target/bin/$1
   shift
+  kit_run_file "$program" "$@"
+}
+
+# Runs the program that this file is, likewise.
+kit_run_file() { # FILE [WORD...]
+  local emulator=$kit_tools/bin/qemu-x86_64
   if [ -x "$emulator" ]; then
-    "$emulator" "$kit_tools/lib/ld-linux-x86-64.so.2" --library-path "$kit_tools/lib" "$program" "$@"
+    "$emulator" "$kit_tools/lib/ld-linux-x86-64.so.2" --library-path "$kit_tools/lib" "$@"
   else
-    "$kit_tools/lib/ld-linux-x86-64.so.2" --library-path "$kit_tools/lib" "$program" "$@"
+    "$kit_tools/lib/ld-linux-x86-64.so.2" --library-path "$kit_tools/lib" "$@"
   fi
+}
+
+# Runs the program NAME with these words, and passes on the file that it writes only where it is whole: it has written something and said
+# nothing. Ends with 0 then, and else with 2; what the program said is on standard error.
+kit_deliver() { # NAME [WORD...]
+  local name=$1 room status=2
+  room=$(mktemp -d) || return 2
+  kit_run "$@" >"$room/out" 2>"$room/said"
+  if [ -s "$room/said" ]; then
+    cat "$room/said" >&2
+  elif ! [ -s "$room/out" ]; then
+    echo "$name: could not be run to its end" >&2
+  elif cat "$room/out" 2>/dev/null; then
+    status=0
+  else
+    echo "$name: the file could not be written" >&2
+  fi
+  rm -rf "$room"
+  return "$status"
 }

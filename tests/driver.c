@@ -1,5 +1,5 @@
-// Serves requests for the functions of the crates `doors` and `capturedoors`, so that a program in another language can try them: requests on standard
-// input, answers on standard output, until the input ends.
+// Serves requests for the functions of the crates `doors`, `capturedoors` and `writerdoors`, so that a program in another language can
+// try them: requests on standard input, answers on standard output, until the input ends.
 //
 // All numbers are 8 bytes, unsigned, least byte first. A request is its number and then:
 //   1 open   states inputs outputs waiting losses rows_len, rows
@@ -16,6 +16,10 @@
 //            answer: 3 results, event_room bytes
 //   7 hand   capture_len, capture, place
 //            answer: 5 results
+//   8 write  source states inputs outputs waiting losses rows_len, rows, trace_len, trace, out_len
+//            answer: 4 results, out_len bytes
+//   9 again  file_len, file, out_len: the file is read, and where it is good, what was read is written
+//            answer: 4 results, out_len bytes; where the file is refused the first 3 are the reader's, and the last is 0
 // Memory that a function is to write to holds the byte 0xAA throughout before, so that what was left alone can be told.
 //
 // Input that ends inside a request ends the program with status 1; a request that is none of these, a length above 64 MiB, memory that
@@ -48,9 +52,12 @@ _Bool rillmoth_read(const u8 *file, size_t file_len, u8 *rows, size_t rows_len, 
                     size_t told_len);
 _Bool rillmoth_import(const u8 *capture, size_t capture_len, u8 *events, size_t events_len, u64 *told, size_t told_len);
 _Bool rillmoth_hand(const u8 *capture, size_t capture_len, size_t place, u64 *told, size_t told_len);
+_Bool rillmoth_write(size_t source, const u8 *rows, size_t rows_len, size_t states, size_t inputs, size_t outputs, size_t waiting,
+                     size_t losses, const u8 *trace, size_t trace_len, u8 *out, size_t out_len, u64 *told, size_t told_len);
 
 enum { WORDS = 267, BYTES = 2085, TEST_RESULTS = 3, RUN_RESULTS = 4, READ_RESULTS = 11 };
-enum { IMPORT_RESULTS = 3, HAND_RESULTS = 5, UNTOUCHED = 0xAA };
+enum { IMPORT_RESULTS = 3, HAND_RESULTS = 5, WRITE_RESULTS = 4, UNTOUCHED = 0xAA };
+enum { ROW_ROOM = 2048, EVENT_ROOM = 4096 };
 enum { SHORT_INPUT = 1, BAD_REQUEST = 2 };
 static const u64 MOST = 64ull << 20;
 
@@ -248,6 +255,32 @@ static void hand(void) {
     free(capture.at);
 }
 
+static void write_house(void) {
+    u64 source = number();
+    struct table t = table();
+    struct bytes trace = taken(), out = untouched(number());
+    must(rillmoth_write(source, t.rows.at, t.rows.count, t.states, t.inputs, t.outputs, t.waiting, t.losses, trace.at, trace.count, out.at,
+                        out.count, told, WRITE_RESULTS));
+    give(told, WRITE_RESULTS * sizeof *told);
+    give(out.at, out.count);
+    free(t.rows.at), free(trace.at), free(out.at);
+}
+
+// The results of a reading are number, place, second place, states, inputs, outputs, B, c, source, row bytes and events.
+static void again(void) {
+    struct bytes file = taken(), out = untouched(number()), rows = room(ROW_ROOM), events = room(EVENT_ROOM);
+    must(rillmoth_read(file.at, file.count, rows.at, rows.count, events.at, events.count, told, READ_RESULTS));
+    if (told[0] == 0) {
+        must(rillmoth_write(told[8], rows.at, told[9], told[3], told[4], told[5], told[6], told[7], events.at, told[10], out.at, out.count,
+                            told, WRITE_RESULTS));
+    } else {
+        told[3] = 0;
+    }
+    give(told, WRITE_RESULTS * sizeof *told);
+    give(out.at, out.count);
+    free(file.at), free(out.at), free(rows.at), free(events.at);
+}
+
 int main(void) {
     while (input_at < input_end || more()) {
         switch (number()) {
@@ -258,6 +291,8 @@ int main(void) {
             case 5: list_file(); break;
             case 6: import_capture(); break;
             case 7: hand(); break;
+            case 8: write_house(); break;
+            case 9: again(); break;
             default: end(BAD_REQUEST);
         }
     }

@@ -5,10 +5,10 @@ ghost use lib.ListN.{getD};
 ghost use Rattle.block.specs.Block.{two, kind, number, used, payload, share, stored};
 use super::PAYLOAD_AT;
 
-pub(crate) const CHECK_AT: usize = 510;
+pub const CHECK_AT: usize = 510;
 
 // The bytes that a full block uses.
-pub(crate) const ROOM: usize = CHECK_AT - PAYLOAD_AT;
+pub const ROOM: usize = CHECK_AT - PAYLOAD_AT;
 
 // Byte i; past the end, 0.
 pub fn byte(b: &[u8], i: usize) -> u8

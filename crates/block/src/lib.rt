@@ -8,8 +8,8 @@ use flaw::Test;
 
 mod bytes;
 
-use bytes::CHECK_AT;
-use bytes::ROOM;
+pub use bytes::CHECK_AT;
+pub use bytes::ROOM;
 pub use bytes::byte;
 use bytes::kind;
 use bytes::number;
@@ -23,7 +23,7 @@ pub const BLOCK: usize = 512;
 pub const PAYLOAD_AT: usize = 6;
 
 // The kinds of blocks.
-const SETUP: u8 = 1;
+pub const SETUP: u8 = 1;
 
 pub const ROWS: u8 = 2;
 
@@ -37,7 +37,7 @@ const SETUP_SIZE: usize = 6;
 const SOURCE_AT: usize = PAYLOAD_AT + 5;
 
 // The check that the block should carry.
-fn check(b: &[u8]) -> usize
+pub fn check(b: &[u8]) -> usize
     ensures { λ r. ⌜ r ≡ check (now (b .entry)) ⌝ }
 {
     let mut sum = 0;

@@ -2,7 +2,7 @@
 use mathlib.Core.Path.{_≡_, refl, _∙_}
 use mathlib.Core.Bool.{true, false}
 use mathlib.Core.List.{List, [], _∷_}
-use Prim.Native.Nat.{ℕ, _+_, _*_, _≤_}
+use Prim.Native.Nat.{ℕ, _+_, _*_, _≤_, _<_}
 use native.Mathlib.Nat.{mul-le-mul}
 use native.Mathlib.Omega.{arith}
 use lib.Dec.{leb}
@@ -15,9 +15,9 @@ use Rattle.table.specs.Tests.{counts-test, length-test}
 use Rattle.table.specs.declared.answer.Refusal.the-variants as told
 use Rattle.table.specs.declared.answer.Test.the-variants as table
 use Rattle.house.specs.Limits.{most-rows}
-use Rattle.house.specs.Verdicts.{must, of-table, is-passed, is-good, first-of}
+use Rattle.house.specs.Verdicts.{must, of-table, is-passed, is-good, then, first-of}
 use Rattle.house.specs.File.{rows-of, events-of, contents-of, front}
-use Rattle.house.specs.Reading.{is-standard, states-held, shape-test, rows-test, limits-test, events-test, room-test, content-test, form-test, verdict, answer, after}
+use Rattle.house.specs.Reading.{is-standard, states-held, shape-test, rows-test, limits-test, events-test, held-test, room-test, content-test, form-test, verdict, answer, after}
 use Rattle.house.specs.declared.answer.Contents.{Contents}
 use Rattle.house.specs.declared.answer.Reading.{Reading}
 use Rattle.house.specs.declared.answer.Reading.the-variants as reading
@@ -27,7 +27,11 @@ use Rattle.house.specs.declared.answer.Source.{Source}
 use Rattle.house.specs.declared.answer.Source.the-variants.{Rows, Standard}
 use Rattle.house.specs.declared.answer.Verdict.{Verdict}
 use Rattle.house.specs.declared.answer.Verdict.the-variants.{Passed, Refused}
-use Rattle.house.proofs.Verdicts.{must-passed, table-passed, then-passed, refuses}
+use Rattle.house.proofs.Verdicts.{must-passed, table-passed, then-passed, refuses-both}
+
+-- counts that pass fit a byte
+pub counts-small : (s i o : ℕ) → counts-test s i o ≡ table.Passed → (s < 256) × (i < 256) × (o < 256)
+counts-small s i o e = let (a, b, c) = counts-pass s i o .0 e in (omega arith, omega arith, omega arith)
 
 held-below : (x : Source) (s : ℕ) → states-held x s ≤ s
 held-below Rows s = omega arith
@@ -48,30 +52,29 @@ module _ (c : Contents) where
   module _ (rows events : List ℕ) (a b : ℕ) where
     -- where the shape is wrong, that is the answer; where it is right, the rest is
     pub shape-refuses : (v : Verdict) → v ≡ shape-test c → is-passed v ≡ false → v ≡ content-test c rows events a b
-    unfolding content-test
-    shape-refuses v e f = refuses v (first-of (rows-test c rows ∷ limits-test c ∷ events-test c events ∷ room-test c a b ∷ [])) f ∙ rw e
+    unfolding content-test held-test
+    shape-refuses v e f =
+        refuses-both v (first-of (rows-test c rows ∷ limits-test c ∷ events-test c events ∷ [])) (room-test c a b) f ∙ rw e
 
     pub shape-leaves : shape-test c ≡ Passed
-        → first-of (rows-test c rows ∷ limits-test c ∷ events-test c events ∷ room-test c a b ∷ []) ≡ content-test c rows events a b
-    unfolding content-test
+        → then (first-of (rows-test c rows ∷ limits-test c ∷ events-test c events ∷ [])) (room-test c a b) ≡ content-test c rows events a b
+    unfolding content-test held-test
     shape-leaves e = rw e
 
-    -- all tests of the contents pass
-    pub record Passes : Type 0 where
-      pub shape : shape-test c ≡ Passed
-      pub entries : rows-test c rows ≡ Passed
-      pub limits : limits-test c ≡ Passed
-      pub trace : events-test c events ≡ Passed
-      pub room : room-test c a b ≡ Passed
+  -- all tests of what is held pass
+  pub record Passes (rows events : List ℕ) : Type 0 where
+    pub shape : shape-test c ≡ Passed
+    pub entries : rows-test c rows ≡ Passed
+    pub limits : limits-test c ≡ Passed
+    pub trace : events-test c events ≡ Passed
 
-    pub content-passed : content-test c rows events a b ≡ Passed → Passes
-    unfolding content-test
-    content-passed e =
-        let (p, q) = then-passed (shape-test c) _ e in
-        let (r, t) = then-passed (rows-test c rows) _ q in
-        let (u, v) = then-passed (limits-test c) _ t in
-        let (w, x) = then-passed (events-test c events) _ v in
-        record { shape = p; entries = r; limits = u; trace = w; room = x }
+  pub held-passed : (rows events : List ℕ) → held-test c rows events ≡ Passed → Passes rows events
+  unfolding held-test
+  held-passed rows events e =
+      let (p, q) = then-passed (shape-test c) _ e in
+      let (r, t) = then-passed (rows-test c rows) _ q in
+      let (u, v) = then-passed (limits-test c) _ t in
+      record { shape = p; entries = r; limits = u; trace = v }
 
   -- 10 passes
   pub room-passed : (a b : ℕ) → room-test c a b ≡ Passed → (c .rows ≤ a) × (c .events ≤ b)
@@ -105,16 +108,18 @@ module _ (s : List ℕ) (a b : ℕ) where
   form-leaves v w c e f g h = rw (← e, f, h, g)
 
   -- all tests pass
-  pub verdict-passed : verdict s a b ≡ Passed → (form-test s ≡ Passed) × Passes (contents-of s) (rows-of s) (events-of s) a b
-  unfolding verdict
+  pub verdict-passed : verdict s a b ≡ Passed
+      → (form-test s ≡ Passed) × (held-test (contents-of s) (rows-of s) (events-of s) ≡ Passed) × (room-test (contents-of s) a b ≡ Passed)
+  unfolding verdict content-test
   verdict-passed e =
       let (p, q) = then-passed (form-test s) _ e in
-      (p, content-passed (contents-of s) (rows-of s) (events-of s) a b q)
+      let (h, r) = then-passed (held-test (contents-of s) (rows-of s) (events-of s)) _ q in
+      (p, h, r)
 
   -- then both buffers have room
   pub roomy : verdict s a b ≡ Passed → (length (rows-of s) ≤ a) × (length (events-of s) ≤ b)
   unfolding contents-of
-  roomy e = room-passed (contents-of s) a b (verdict-passed e .1 .room)
+  roomy e = room-passed (contents-of s) a b (verdict-passed e .2)
 
 pub good-passed : (v : Verdict) (c : Contents) (r : Reading) → r ≡ answer v c → is-good r ≡ true → v ≡ Passed
 good-passed Passed c r e f = refl

@@ -21,7 +21,7 @@ use Rattle.block.specs.Block.{GoodBlock, block-test}
 use Rattle.house.specs.Limits.{most-events}
 use Rattle.house.specs.File.{block-at, blocks, block-before, rows-of, events-of, contents-of}
 use Rattle.house.specs.Laws.{Faulty, BlockTold}
-use Rattle.house.specs.Reading.{is-whole, is-standard, states-held, valid-events, blocks-test, form-test, shape-test, rows-test, limits-test, events-test, room-test, content-test, verdict}
+use Rattle.house.specs.Reading.{is-whole, is-standard, states-held, valid-events, blocks-test, form-test, shape-test, rows-test, limits-test, events-test, held-test, room-test, content-test, verdict}
 use Rattle.house.specs.Verdicts.{must, of-block, of-table, then}
 use Rattle.house.specs.declared.answer.Contents.{Contents}
 use Rattle.house.specs.declared.answer.Refusal.{Refusal}
@@ -77,15 +77,16 @@ module _ (c : Contents) where
       (of-must (leb (c .events) b) (Content events) (is-content events))
 
   of-contents : (rows events : List ℕ) (a b : ℕ) → Elsewhere (content-test c rows events a b)
-  unfolding content-test rows-test events-test
+  unfolding content-test held-test rows-test events-test
   of-contents rows events a b =
       let entries = entries-test (table-of rows (states-held (c .source) (c .states)) (c .inputs) (c .outputs)) in
       let valid = valid-events (c .inputs) (c .outputs) events in
-      of-then (shape-test c) _ of-shape
+      of-then (held-test c rows events) _
+      (of-then (shape-test c) _ of-shape
       (of-then (rows-test c rows) _ (of-content entries)
       (of-then (limits-test c) _ of-limits
-      (of-then (events-test c events) _ (of-must (eqb valid (c .events)) (Content (content.Event valid)) (is-content (content.Event valid)))
-      (of-room a b))))
+      (of-must (eqb valid (c .events)) (Content (content.Event valid)) (is-content (content.Event valid))))))
+      (of-room a b)
 
 -- THE BLOCKS
 

@@ -9,7 +9,7 @@ use lib.Seq.{take-append-seam, drop-append-seam}
 use Rattle.house.specs.File.{rows-of, events-of, contents-of, front}
 use Rattle.table.proofs.Checks.{clash}
 use Rattle.house.specs.Reading.{verdict, after, Answers}
-use Rattle.house.specs.Laws.{FormPasses, BlockTold, NoThirteen, FirstBad, OneReading, NothingWritten, Starts, WhatIsHeld, GoodRows, ReadExactly, CountsHeld, WhatIsGood, RowsUntouched}
+use Rattle.house.specs.Laws.{FormPasses, BlockTold, NoThirteen, FirstBad, OneReading, NothingWritten, Starts, WhatIsHeld, GoodRows, ContentsPass, RowsFit, ReadExactly, CountsHeld, WhatIsGood, RowsUntouched}
 use Rattle.house.specs.declared.answer.Contents.{Contents}
 use Rattle.house.specs.declared.answer.Reading.the-variants.{Good}
 use Rattle.house.specs.declared.answer.Source.{Source}
@@ -56,6 +56,12 @@ passed s d e c d′ e′ x = good-passed (verdict s (length d) (length e)) (cont
 answered : (s d e : List ℕ) (c : Contents) (d′ e′ : List ℕ) → Answers s d e (Good c) d′ e′ → c ≡ contents-of s
 answered s d e c d′ e′ x = good-contents (verdict s (length d) (length e)) (contents-of s) c (x .reading)
 
+pub contents-pass : ContentsPass
+contents-pass = Good.contents-pass
+
+pub rows-fit : RowsFit
+rows-fit = Good.rows-fit
+
 pub read-exactly : ReadExactly
 read-exactly = Good.read-exactly
 
@@ -89,7 +95,7 @@ no-rows Rows s i o rows e g = clash (cc)
 pub rows-untouched : RowsUntouched
 rows-untouched s d e c d′ e′ x h =
     let g = what-is-good s d e c d′ e′ x in
-    let n = no-rows (c .source) (c .states) (c .inputs) (c .outputs) (rows-of s) h (g .rows) in
+    let n = no-rows (c .source) (c .states) (c .inputs) (c .outputs) (rows-of s) h (g .contents .table) in
     x .rows ∙ ap (front d) n
 
 pub counts-held : CountsHeld

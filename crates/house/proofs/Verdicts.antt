@@ -43,9 +43,9 @@ then-passed Passed w e = (refl, e)
 then-passed (Refused r) w e = clash (cc)
 
 -- a test that fails is the answer
-pub refuses : (v w : Verdict) → is-passed v ≡ false → v ≡ then v w
-refuses Passed w e = clash (cc)
-refuses (Refused r) w e = refl
+pub refuses-both : (v w x : Verdict) → is-passed v ≡ false → v ≡ then (then v w) x
+refuses-both Passed w x e = clash (cc)
+refuses-both (Refused r) w x e = refl
 
 -- THE TESTS OF THE BLOCKS
 

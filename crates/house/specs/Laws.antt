@@ -11,10 +11,10 @@ use Rattle.table.specs.declared.answer.Symbol.the-variants.{Invalid}
 use Rattle.flaw.specs.declared.Flaw.{Flaw}
 use Rattle.flaw.specs.declared.Test.the-variants.{Failed}
 use Rattle.block.specs.Block.{GoodBlock, block-test}
-use Rattle.house.specs.Limits.{most-events, standard-states, standard-inputs, standard-outputs}
+use Rattle.house.specs.Limits.{most-events, most-rows, standard-states, standard-inputs, standard-outputs}
 use Rattle.house.specs.File.{block-at, blocks, block-before, GoodForm, rows-of, events-of, contents-of}
 use Rattle.table.specs.Tests.{invalid-at}
-use Rattle.house.specs.Reading.{is-whole, valid-events, form-test, verdict, Answers}
+use Rattle.house.specs.Reading.{is-whole, valid-events, held-test, form-test, verdict, Answers}
 use Rattle.house.specs.Refusals.{told}
 use Rattle.house.specs.declared.answer.Contents.{Contents}
 use Rattle.house.specs.declared.answer.Reading.{Reading}
@@ -88,13 +88,27 @@ abbrev pub GoodRows : Source → ℕ → ℕ → ℕ → List ℕ → Type 0
 GoodRows Rows s i o rows = Valid (table-of rows s i o)
 GoodRows Standard s i o rows = (s ≡ standard-states) × (i ≡ standard-inputs) × (o ≡ standard-outputs) × (rows ≡ [])
 
--- A good file: its blocks, its rows and its bounds are good; it has at most 4,096 events, and all are valid.
+-- Good contents: the rows and the bounds are good; there are at most 4,096 events, and all are valid.
+pub record GoodContents (c : Contents) (rows events : List ℕ) : Type 0 where
+  pub table : GoodRows (c .source) (c .states) (c .inputs) (c .outputs) rows
+  pub bounds : Bounded (c .waiting) (c .losses)
+  pub few : length events ≤ most-events
+  pub valid : (k : ℕ) → k < length events → symbol-of (getD events k 0) (c .inputs) (c .outputs) ≡ Invalid → ⊥
+
+-- 2, 3, 14, 1, 4, 5, 6, 9 and 7 are given exactly when the contents are not good.
+abbrev pub ContentsPass : Type 0
+ContentsPass =
+    (c : Contents) (rows events : List ℕ) → c .rows ≡ length rows → c .events ≡ length events
+    → held-test c rows events ≡ Passed ↔ GoodContents c rows events
+
+-- So good contents have at most the rows of the largest table.
+abbrev pub RowsFit : Type 0
+RowsFit = (c : Contents) (rows events : List ℕ) → GoodContents c rows events → length rows ≤ most-rows
+
+-- A good file: its blocks are good, and so is what they hold.
 pub record GoodFile (s : List ℕ) (c : Contents) : Type 0 where
   pub form : GoodForm s
-  pub rows : GoodRows (c .source) (c .states) (c .inputs) (c .outputs) (rows-of s)
-  pub bounds : Bounded (c .waiting) (c .losses)
-  pub few : length (events-of s) ≤ most-events
-  pub valid : (k : ℕ) → k < length (events-of s) → symbol-of (getD (events-of s) k 0) (c .inputs) (c .outputs) ≡ Invalid → ⊥
+  pub contents : GoodContents c (rows-of s) (events-of s)
 
 -- A file is read exactly when it is good and the buffers have room.
 abbrev pub ReadExactly : Type 0

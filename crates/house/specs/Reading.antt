@@ -91,6 +91,10 @@ module _ (c : Contents) where
       must (eqb (valid-events (c .inputs) (c .outputs) events) (c .events))
       (refusal.Content (table.Event (valid-events (c .inputs) (c .outputs) events)))
 
+  -- 2, 3, 14, 1, 4, 5, 6, 9, 7: the tests of what a file holds, or of what is to be written into one.
+  unfoldable pub held-test : List ℕ → List ℕ → Verdict
+  held-test rows events = first-of (shape-test ∷ rows-test rows ∷ limits-test ∷ events-test events ∷ [])
+
   -- 10: row or event buffer too short; needed length, rows first.
   unfoldable pub room-test : ℕ → ℕ → Verdict
   room-test row-room event-room =
@@ -100,8 +104,21 @@ module _ (c : Contents) where
       ∷ [])
 
   unfoldable pub content-test : List ℕ → List ℕ → ℕ → ℕ → Verdict
-  content-test rows events row-room event-room =
-      first-of (shape-test ∷ rows-test rows ∷ limits-test ∷ events-test events ∷ room-test row-room event-room ∷ [])
+  content-test rows events row-room event-room = first-of (held-test rows events ∷ room-test row-room event-room ∷ [])
+
+-- What is given, in a file or to be written into one: counts, bounds, source, and how many rows and events.
+abbrev pub given : Source → (states inputs outputs waiting losses : ℕ) → List ℕ → List ℕ → Contents
+given source s i o B c rows events =
+    record {
+      states = s;
+      inputs = i;
+      outputs = o;
+      waiting = B;
+      losses = c;
+      source = source;
+      rows = length rows;
+      events = length events;
+    }
 
 -- THE ANSWER
 

@@ -1,10 +1,17 @@
 // What a file of good blocks holds, and the tests of it.
 ghost use mathlib.Core.Path.{_≡_};
+ghost use mathlib.Core.List.{[], _∷_};
 ghost use Prim.Native.Nat.{_≤_};
+ghost use lib.Dec.{eqb, leb};
 ghost use lib.ListN.{length};
-ghost use Rattle.house.specs.Limits.{most-rows};
+ghost use Rattle.table.specs.Tests.{counts-test, length-test, bounds-test};
+ghost use Rattle.table.specs.declared.answer.Refusal.the-variants as table-refusal;
+ghost use Rattle.table.specs.declared.answer.Test.the-variants as table-test;
+ghost use Rattle.house.specs.Limits.{most-rows, most-events};
+ghost use Rattle.house.specs.Verdicts.{must, of-table, first-of};
+ghost use Rattle.house.specs.declared.answer.Refusal.the-variants as refusal;
 ghost use Rattle.house.specs.File.{rows-of, events-of, source-of, contents-of};
-ghost use Rattle.house.specs.Reading.{is-standard, states-held, shape-test, rows-test, limits-test, events-test, room-test, content-test, verdict, answer};
+ghost use Rattle.house.specs.Reading.{is-standard, states-held, shape-test, rows-test, limits-test, events-test, held-test, room-test, content-test, given, verdict, answer};
 use super::answer::Contents;
 use super::answer::Reading;
 use super::answer::Refusal;
@@ -82,16 +89,24 @@ fn held(source: Source, states: u8) -> u8
     }
 }
 
+// Numbers 14 and 1, of counts that pass.
+fn sized(source: Source, states: u8, inputs: u8, outputs: u8, rows: usize) -> Verdict
+    ensures { λ r. ⌜ r ≡ first-of (must (is-standard source states inputs outputs) refusal.Standard ∷ of-table (length-test rows (states-held source states) inputs outputs) ∷ []) ⌝ }
+{
+    let right = standard(source, states, inputs, outputs);
+    let standard = must(right, Refusal::Standard);
+    let length = of_table(table::length(rows, held(source, states), inputs, outputs));
+    then(standard, length)
+}
+
 // Numbers 2, 3, 14 and 1.
 fn shape(c: Contents) -> Verdict
     ensures { λ r. ⌜ r ≡ shape-test c ⌝ }
 {
     let source = c.source;
     let counts = of_table(table::counts(c.states as usize, c.inputs as usize, c.outputs as usize));
-    let right = standard(source, c.states, c.inputs, c.outputs);
-    let standard = must(right, Refusal::Standard);
-    let length = of_table(table::length(c.rows, held(source, c.states), c.inputs, c.outputs));
-    then(counts, then(standard, length))
+    let sized = sized(source, c.states, c.inputs, c.outputs, c.rows);
+    then(counts, sized)
 }
 
 // Number 4. The rows may lie across blocks, so they are gathered first; of the right length, they fit.
@@ -108,27 +123,38 @@ fn entries(file: &[u8], c: Contents) -> Verdict
     of_table(table::entries(&rows[..n], states, c.inputs, c.outputs))
 }
 
-// Numbers 5, 6 and 9.
-fn limits(c: Contents) -> Verdict
-    ensures { λ r. ⌜ r ≡ limits-test c ⌝ }
+// Numbers 5, 6 and 9, of bounds and of so many events.
+fn limited(waiting: usize, losses: usize, events: usize) -> Verdict
+    ensures { λ r. ⌜ r ≡ first-of (of-table (bounds-test waiting losses) ∷ must (leb events most-events) (refusal.Content (table-refusal.Events events)) ∷ []) ⌝ }
 {
-    let bounds = of_table(table::bounds(c.waiting as usize, c.losses as usize));
+    let bounds = of_table(table::bounds(waiting, losses));
     let few = must(
-        c.events <= MOST_EVENTS,
-        Refusal::Content(table::Refusal::Events(c.events)),
+        events <= MOST_EVENTS,
+        Refusal::Content(table::Refusal::Events(events)),
     );
     then(bounds, few)
 }
 
-// Number 7.
+fn limits(c: Contents) -> Verdict
+    ensures { λ r. ⌜ r ≡ limits-test c ⌝ }
+{
+    limited(c.waiting as usize, c.losses as usize, c.events)
+}
+
+// Number 7, of so many events, of which so many come before the first that is not valid.
+fn followed(valid: usize, events: usize) -> Verdict
+    ensures { λ r. ⌜ r ≡ must (eqb valid events) (refusal.Content (table-refusal.Event valid)) ⌝ }
+{
+    must(
+        valid == events,
+        Refusal::Content(table::Refusal::Event(valid)),
+    )
+}
+
 fn trace(file: &[u8], c: Contents) -> Verdict
     ensures { λ r. ⌜ r ≡ events-test c (events-of (now (file .entry))) ⌝ }
 {
-    let valid = file::valid_events(file, c.inputs, c.outputs);
-    must(
-        valid == c.events,
-        Refusal::Content(table::Refusal::Event(valid)),
-    )
+    followed(file::valid_events(file, c.inputs, c.outputs), c.events)
 }
 
 // Number 10, of buffers of these lengths.
@@ -159,7 +185,8 @@ fn content(file: &[u8], c: Contents, rows: usize, events: usize) -> Verdict
     let limits = limits(c);
     let trace = trace(file, c);
     let room = room(c, rows, events);
-    then(entries, then(limits, then(trace, room)))
+    let held = then(entries, then(limits, trace));
+    then(held, room)
 }
 
 fn answer(v: Verdict, c: Contents) -> Reading
@@ -182,5 +209,55 @@ pub(crate) fn judge(file: &[u8], rows: usize, events: usize) -> Reading
             let c = contents(file);
             answer(content(file, c, rows, events), c)
         }
+    }
+}
+
+// Numbers 14, 1, 4, 5, 6, 9 and 7, of counts that pass.
+fn fitted(
+    source: Source,
+    rows: &[u8],
+    states: u8,
+    inputs: u8,
+    outputs: u8,
+    waiting: usize,
+    losses: usize,
+    trace: &[u8],
+) -> Verdict
+    requires { ⌜ counts-test states inputs outputs ≡ table-test.Passed ⌝ }
+    ensures { λ r. ⌜ r ≡ held-test (given source states inputs outputs waiting losses (now (rows .entry)) (now (trace .entry))) (now (rows .entry)) (now (trace .entry)) ⌝ }
+{
+    let sized = sized(source, states, inputs, outputs, rows.len());
+    let entries = of_table(table::entries(rows, held(source, states), inputs, outputs));
+    let limited = limited(waiting, losses, trace.len());
+    let followed = followed(file::valid(trace, inputs, outputs), trace.len());
+    then(sized, then(entries, then(limited, followed)))
+}
+
+// The tests of what a file holds, numbers 2, 3, 14, 1, 4, 5, 6, 9 and 7, of things that are to be written into one.
+pub fn test(
+    source: Source,
+    rows: &[u8],
+    states: usize,
+    inputs: usize,
+    outputs: usize,
+    waiting: usize,
+    losses: usize,
+    trace: &[u8],
+) -> Verdict
+    ensures { λ r. ⌜ r ≡ held-test (given source states inputs outputs waiting losses (now (rows .entry)) (now (trace .entry))) (now (rows .entry)) (now (trace .entry)) ⌝ }
+{
+    let counts = table::counts(states, inputs, outputs);
+    match counts {
+        table::Test::Refused(r) => Verdict::Refused(Refusal::Content(r)),
+        table::Test::Passed => fitted(
+            source,
+            rows,
+            states as u8,
+            inputs as u8,
+            outputs as u8,
+            waiting,
+            losses,
+            trace,
+        ),
     }
 }

@@ -135,7 +135,7 @@ fn place_or(test: Test, n: usize) -> usize
 }
 
 // How many events come before the first that is not valid; all of them, if there is none.
-fn valid(events: &[u8], inputs: u8, outputs: u8) -> usize
+pub(crate) fn valid(events: &[u8], inputs: u8, outputs: u8) -> usize
     ensures { λ r. ⌜ r ≡ valid-events inputs outputs (now (events .entry)) ⌝ }
 {
     place_or(table::events(events, inputs, outputs), events.len())

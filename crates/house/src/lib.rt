@@ -13,6 +13,7 @@ pub use answer::Refusal;
 pub use answer::Source;
 use answer::is_good;
 pub use answer::tell;
+pub use content::test;
 pub use flaw::Flaw;
 
 // Reads a file: its rows to the start of one buffer, its events to the start of another. With source 1 there are no rows to copy.

@@ -74,10 +74,10 @@ module _ (s : List ℕ) (c : Contents) (g : GoodFile s c) where
   table-good source.Standard rows (a, b, d, e) = rw (a, b, d) is-valid
 
   opens : opening (rows-meant (c .source) (rows-of s)) (c .states) (c .inputs) (c .outputs) (c .waiting) (c .losses) ≡ Passed
-  opens = opening-passes _ (c .states) (c .inputs) (c .outputs) (c .waiting) (c .losses) .1 (table-good (c .source) (rows-of s) (g .rows), g .bounds)
+  opens = opening-passes _ (c .states) (c .inputs) (c .outputs) (c .waiting) (c .losses) .1 (table-good (c .source) (rows-of s) (g .contents .table), g .contents .bounds)
 
   trace-good : GoodTrace (events-of s) (c .inputs) (c .outputs)
-  trace-good = record { few = omega (arith, g .few); valid = g .valid }
+  trace-good = record { few = omega (arith, g .contents .few); valid = g .contents .valid }
 
   pub run-good : (room : ℕ) → 12 * length (events-of s) ≤ room
       → run-test (rows-meant (c .source) (rows-of s)) (c .states) (c .inputs) (c .outputs) (c .waiting) (c .losses) (events-of s) room ≡ Passed

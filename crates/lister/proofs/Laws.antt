@@ -1,39 +1,29 @@
 -- Every statement of specs/Laws.antt, proved. Assumes nothing.
 use mathlib.Core.Path.{_≡_, refl, sym, _∙_, ap}
 use mathlib.Core.List.{List}
-use Prim.Native.Nat.{ℕ, _+_, _*_, _≤_}
-use native.Mathlib.Nat.{mul-le-mul}
+use Prim.Native.Nat.{ℕ, _≤_}
 use native.Mathlib.Omega.{arith}
 use lib.ListN.{length}
-use Rattle.table.specs.Bytes.{table-of}
-use Rattle.model.specs.Table.{Valid}
 use Rattle.run.specs.Run.{ran}
 use Rattle.run.specs.declared.Ran.{Ran}
 use Rattle.monitor.specs.declared.session.Flag.{Flag}
 use Rattle.run.proofs.Laws.{one-run}
 use Rattle.house.specs.File.{rows-of, events-of, contents-of}
-use Rattle.house.specs.Laws.{GoodRows, GoodFile}
+use Rattle.house.specs.Laws.{GoodFile}
 use Rattle.house.specs.Reading.{verdict}
 use Rattle.house.specs.declared.answer.Refusal.{Refusal}
-use Rattle.house.specs.declared.answer.Source.{Source}
-use Rattle.house.specs.declared.answer.Source.the-variants.{Rows, Standard}
 use Rattle.house.specs.declared.answer.Verdict.the-variants as verdict
-use Rattle.house.proofs.Laws.{read-exactly}
+use Rattle.house.proofs.Laws.{rows-fit, read-exactly}
 use Rattle.lister.specs.Judging.{row-room, Judges, refused, cramped, listed}
 use Rattle.lister.specs.Laws.{OneJudging, GoodListed, OnlyBadRefused}
 use Rattle.lister.proofs.Judging.{run-good}
 use Rattle.lister.specs.declared.judge.Judged.the-variants.{Refused, Ran as Listed}
 
--- the rows of a good file fit
-rows-fit : (source : Source) (s i o : ℕ) (rows : List ℕ) → GoodRows source s i o rows → length rows ≤ row-room
-rows-fit Rows s i o rows v = let p : s * (i + o) ≤ 64 * 32 = mul-le-mul {n₂ = 64} {m₂ = 32} (v .states .1) (omega (arith, v .inputs .1, v .outputs .1)) in omega (arith, v .rows)
-rows-fit Standard s i o rows (a, b, c, e) = rw e (omega arith)
-
--- so nothing refuses it
+-- the rows of a good file fit, so nothing refuses it
 passes : (s e : List ℕ) → 4096 ≤ length e → GoodFile s (contents-of s) → verdict s row-room (length e) ≡ verdict.Passed
 passes s e l g =
     read-exactly s row-room (length e) .1
-    (g, rows-fit (contents-of s .source) (contents-of s .states) (contents-of s .inputs) (contents-of s .outputs) (rows-of s) (g .rows), omega (arith, g .few))
+    (g, rows-fit (contents-of s) (rows-of s) (events-of s) (g .contents), omega (arith, g .contents .few))
 
 clash : {r : Refusal} → verdict.Passed ≡ verdict.Refused r → ⊥
 clash e = let z : _≡_ {A = ℕ} 0 1 = cc in omega arith
@@ -58,7 +48,7 @@ one-judging s e o j₁ j₂ e₁ e₂ o₁ o₂ (listed {f} v l r) (listed {f = 
 
 pub good-listed : GoodListed
 good-listed s e o j e′ o′ l m g (refused x) = absurd (clash (sym (passes s e l g) ∙ x))
-good-listed s e o j e′ o′ l m g (cramped v x) = absurd (omega (arith, g .few))
+good-listed s e o j e′ o′ l m g (cramped v x) = absurd (omega (arith, g .contents .few))
 good-listed s e o j e′ o′ l m g (listed {f} v r w) = (f, refl, w)
 
 pub only-bad-refused : OnlyBadRefused

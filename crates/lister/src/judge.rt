@@ -3,6 +3,7 @@ use house::Contents;
 use house::Reading;
 use house::Refusal;
 use house::Source;
+use intake::front;
 use monitor::session::Flag;
 use table::Test;
 ghost use mathlib.Core.Path.{_≡_};
@@ -32,16 +33,6 @@ pub(crate) enum Judged {
     Refused(Refusal),
     // How many events there are, and the flag.
     Ran(usize, Flag),
-}
-
-// The first n bytes, or all if there are fewer.
-pub(crate) fn front(bytes: &[u8], n: usize) -> &[u8]
-    ensures { λ r. ⌜ now r ≡ take n (now (bytes .entry)) ⌝ }
-{
-    if n <= bytes.len() {
-        return &bytes[..n];
-    }
-    bytes
 }
 
 fn follow<'a>(c: Contents, rows: &'a [u8], events: &'a [u8], results: &mut [u8]) -> Judged

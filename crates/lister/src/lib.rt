@@ -4,10 +4,8 @@ use house::Refusal;
 use lines::Text;
 use monitor::session::Flag;
 
-mod input;
 mod judge;
 
-use input::Ended;
 use judge::Judged;
 
 // What the listing came to.
@@ -24,7 +22,7 @@ const HEADER: [u8; 32] = *b"event symbol states waiting run\n";
 
 fn say(output: i32, t: Text) -> bool {
     let bytes = t.bytes;
-    io::write_all(output, judge::front(&bytes, t.used))
+    io::write_all(output, intake::front(&bytes, t.used))
 }
 
 // The twelve bytes of event k among a run's results.
@@ -106,16 +104,10 @@ fn list_file(output: i32, file: &[u8], length: usize) -> Outcome {
 
 // Lists the house file that `input` gives to its end; the listing goes to `output`.
 pub fn list(input: i32, output: i32) -> Outcome {
-    let mut file = input::room();
-    let n = io::read_full(input, &mut file);
-    let ended = input::rest(input);
-    match ended {
-        Ended::Failed => Outcome::Broken,
-        Ended::After(more) => {
-            if more > 0 && n < file.len() {
-                return Outcome::Broken;
-            }
-            list_file(output, &file[..n], input::sum(n, more))
-        }
+    let mut file = intake::file_room();
+    let came = intake::keep(input, &mut file);
+    if !came.whole {
+        return Outcome::Broken;
     }
+    list_file(output, intake::front(&file, came.kept), came.length)
 }

@@ -1,4 +1,5 @@
-//! One case: a function of the proved code with all that it is handed, and the answer to it.
+//! One case: a function of the proved code with all that it is handed, and the answer to it. `Again` is two of them, the
+//! reader and then the writer, with what was read.
 
 use crate::capture::{self, Imported, Made};
 use crate::house::{self, Answered};
@@ -6,6 +7,7 @@ use crate::listing::{self, Listed};
 use crate::refusal::{Offered, Refusal};
 use crate::run::{self, Ran};
 use crate::session::{self, Session};
+use crate::writer::{self, Wanted, Written};
 use crate::wrong::Wrong;
 
 #[derive(Clone, Debug)]
@@ -17,6 +19,8 @@ pub enum Case {
     List { file: Vec<u8> },
     Import { capture: Made, room: usize },
     Hand { capture: Made, place: u64 },
+    Write { wanted: Wanted, room: usize },
+    Again { file: Vec<u8>, room: usize },
 }
 
 #[derive(Clone, Debug, PartialEq)]
@@ -27,6 +31,7 @@ pub enum Answer {
     List(Listed),
     Import(Imported),
     Hand([u64; 5]),
+    Write(Written),
 }
 
 /// The functions, in the order in which the driver numbers them, each with the refusal numbers that
@@ -39,6 +44,8 @@ pub const FUNCTIONS: &[(&str, &[u64])] = &[
     ("list", &[1, 2, 3, 4, 5, 6, 7, 9, 11, 12, 14, 20, 21, 22, 23]),
     ("import", &[7, 9, 10, 15, 16]),
     ("hand", &[7, 9, 15, 16]),
+    ("write", &[1, 2, 3, 4, 5, 6, 7, 9, 10, 14]),
+    ("again", &[1, 2, 3, 4, 5, 6, 7, 12, 14, 20, 21, 22, 23]),
 ];
 
 fn told(refusal: Option<Refusal>) -> [u64; 3] {
@@ -56,6 +63,8 @@ impl Case {
             Case::List { .. } => 4,
             Case::Import { .. } => 5,
             Case::Hand { .. } => 6,
+            Case::Write { .. } => 7,
+            Case::Again { .. } => 8,
         }
     }
 
@@ -75,6 +84,8 @@ impl Case {
             Case::List { file } => Answer::List(listing::list(file, wrong)),
             Case::Import { capture, room } => Answer::Import(capture::import(&capture.bytes(), *room, wrong)),
             Case::Hand { capture, place } => Answer::Hand(capture::hand(&capture.bytes(), *place, wrong)),
+            Case::Write { wanted, room } => Answer::Write(writer::write(wanted, *room, wrong)),
+            Case::Again { file, room } => Answer::Write(writer::again(file, *room, wrong)),
         }
     }
 }
@@ -85,7 +96,7 @@ impl Answer {
         match self {
             Answer::Session { session, .. } => session.flag.is_some(),
             Answer::Run(ran) => ran.told[3] > 0,
-            Answer::Read(_) | Answer::Import(_) | Answer::Hand(_) => false,
+            Answer::Read(_) | Answer::Import(_) | Answer::Hand(_) | Answer::Write(_) => false,
             Answer::List(listed) => listed.outcome == listing::FLAGGED,
         }
     }
@@ -98,6 +109,7 @@ impl Answer {
             Answer::Read(answered) => answered.told[0],
             Answer::Import(imported) => imported.told[0],
             Answer::Hand(told) => told[0],
+            Answer::Write(written) => written.told[0],
             Answer::List(listed) => {
                 let mut words = listed.text.split_whitespace();
                 match (words.next(), words.next()) {

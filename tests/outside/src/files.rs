@@ -20,7 +20,7 @@ pub fn content_of(table: &Table, bounds: Bounds, events: Vec<u8>) -> Content {
     }
 }
 
-fn content(random: &mut Random) -> Content {
+pub fn content(random: &mut Random) -> Content {
     let standard = random.chance(1, 4);
     let table = if standard { tables::standard_box() } else { tables::table(random) };
     let bounds = tables::bounds(random);
@@ -35,7 +35,7 @@ fn content(random: &mut Random) -> Content {
 }
 
 /// Content whose events fill some blocks, of a table small enough for that.
-fn long_content(random: &mut Random) -> Content {
+pub fn long_content(random: &mut Random) -> Content {
     let bounds = Bounds { waiting: random.between(1, 3), losses: random.between(1, 3) };
     let length = random.pick(&[503, 504, 505, 1007, 1008, 1009]);
     let trace = tables::walk(random, &tables::small(), bounds, length);
@@ -51,7 +51,7 @@ fn file(random: &mut Random) -> Vec<u8> {
     written(&content)
 }
 
-fn damage_content(random: &mut Random, content: &mut Content) {
+pub fn damage_content(random: &mut Random, content: &mut Content) {
     match random.below(10) {
         0 => content.states = random.pick(&[0, 65, 255, content.states.wrapping_add(1)]),
         1 => content.inputs = random.pick(&[0, 17, 255, content.inputs.wrapping_add(1)]),

@@ -3,14 +3,14 @@
 
 use crate::case::Case;
 use crate::random::Random;
-use crate::{captures, file_edges, files, run_edges, runs, session_edges, sessions};
+use crate::{captures, file_edges, files, run_edges, runs, session_edges, sessions, writes};
 
 pub const BATCH: usize = 1000;
 
 /// A way of making a case.
 type Maker = fn(&mut Random) -> Case;
 
-/// How many cases of each hundred and ten come from each maker.
+/// How many cases of each 164 come from each maker.
 const MIX: &[(usize, Maker)] = &[
     (30, runs::run),
     (10, runs::damaged_run),
@@ -27,6 +27,9 @@ const MIX: &[(usize, Maker)] = &[
     (4, files::damaged_list),
     (5, captures::imported),
     (5, captures::handed),
+    (24, writes::written),
+    (24, writes::again),
+    (6, writes::read_edited),
 ];
 
 /// The systematic cases, which need no seed.
@@ -35,6 +38,7 @@ pub fn edges() -> Vec<Case> {
     cases.extend(session_edges::edges());
     cases.extend(file_edges::edges());
     cases.extend(captures::edges());
+    cases.extend(writes::edges());
     cases
 }
 

@@ -26,6 +26,8 @@ mod tables;
 mod wire;
 #[cfg(test)]
 mod worked;
+mod writer;
+mod writes;
 mod wrong;
 
 use case::{Case, FUNCTIONS};
@@ -41,7 +43,7 @@ const USAGE: &str = "outside --driver PATH | --self [--as WRONG]   compare the d
   --case N    one case only, told in full
 outside --serve [WRONG]                       be a driver";
 
-const BATCHES: u64 = 20;
+const BATCHES: u64 = 30;
 
 /// Random batches that the wrong monitors see, beside all edges.
 const WRONG_BATCHES: u64 = 3;

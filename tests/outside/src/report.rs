@@ -4,6 +4,7 @@ use crate::capture::Made;
 use crate::case::{Answer, Case};
 use crate::refusal::Offered;
 use crate::session::Session;
+use crate::writer::Wanted;
 
 /// Bytes as hexadecimal digits, eight and more equal ones as one with its count; the first few of many.
 fn bytes(bytes: &[u8]) -> String {
@@ -59,6 +60,11 @@ pub fn case(case: &Case) -> String {
         Case::List { file } => format!("list file ({}) {}", file.len(), bytes(file)),
         Case::Import { capture, room } => format!("import room {room} {}", made(capture)),
         Case::Hand { capture, place } => format!("hand place {place} {}", made(capture)),
+        Case::Write { wanted, room } => {
+            let Wanted { source, offered: given, trace } = wanted;
+            format!("write source {source} {} trace ({}) {} room {room}", offered(given), trace.len(), bytes(trace))
+        }
+        Case::Again { file, room } => format!("again room {room} file ({}) {}", file.len(), bytes(file)),
     }
 }
 
@@ -85,6 +91,9 @@ pub fn difference(right: &Answer, came: &Answer) -> String {
         }
         (Answer::Import(right), Answer::Import(came)) => {
             format!("told {:?} and not {:?}{}", right.told, came.told, buffers("events", &right.events, &came.events))
+        }
+        (Answer::Write(right), Answer::Write(came)) => {
+            format!("told {:?} and not {:?}{}", right.told, came.told, buffers("file", &right.out, &came.out))
         }
         (Answer::Hand(right), Answer::Hand(came)) => format!("told {right:?} and not {came:?}"),
         _ => String::from("an answer of another kind"),

@@ -8,6 +8,7 @@ use crate::listing::Listed;
 use crate::refusal::Offered;
 use crate::run::Ran;
 use crate::session::{Session, BYTES, WORDS};
+use crate::writer::{Wanted, Written};
 use crate::wrong::Wrong;
 use std::io::{self, Read, Write};
 
@@ -65,6 +66,16 @@ pub fn request(case: &Case) -> Vec<u8> {
         Case::Hand { capture, place } => {
             put_counted(&mut bytes, &capture.bytes());
             put(&mut bytes, *place);
+        }
+        Case::Write { wanted, room } => {
+            put(&mut bytes, wanted.source);
+            put_offered(&mut bytes, &wanted.offered);
+            put_counted(&mut bytes, &wanted.trace);
+            put(&mut bytes, *room as u64);
+        }
+        Case::Again { file, room } => {
+            put_counted(&mut bytes, file);
+            put(&mut bytes, *room as u64);
         }
     }
     bytes
@@ -128,6 +139,9 @@ pub fn get_answer(case: &Case, from: &mut dyn Read) -> io::Result<Answer> {
             Answer::Import(Imported { told: get_told(from)?, events: get_bytes(from, *room)? })
         }
         Case::Hand { .. } => Answer::Hand(get_told(from)?),
+        Case::Write { room, .. } | Case::Again { room, .. } => {
+            Answer::Write(Written { told: get_told(from)?, out: get_bytes(from, *room)? })
+        }
     })
 }
 
@@ -156,6 +170,11 @@ fn get_case(operation: u64, from: &mut dyn Read) -> io::Result<Case> {
         5 => Case::List { file: get_counted(from)? },
         6 => Case::Import { capture: Made::plain(get_counted(from)?), room: get(from)? as usize },
         7 => Case::Hand { capture: Made::plain(get_counted(from)?), place: get(from)? },
+        8 => {
+            let wanted = Wanted { source: get(from)?, offered: get_offered(from)?, trace: get_counted(from)? };
+            Case::Write { wanted, room: get(from)? as usize }
+        }
+        9 => Case::Again { file: get_counted(from)?, room: get(from)? as usize },
         _ => return Err(io::Error::new(io::ErrorKind::InvalidData, format!("operation {operation}"))),
     })
 }
@@ -169,6 +188,7 @@ fn reply(answer: &Answer) -> Vec<u8> {
         Answer::List(_) => &[],
         Answer::Import(imported) => &imported.told,
         Answer::Hand(told) => told,
+        Answer::Write(written) => &written.told,
     };
     for number in told {
         put(&mut bytes, *number);
@@ -186,6 +206,7 @@ fn reply(answer: &Answer) -> Vec<u8> {
         }
         Answer::Import(imported) => bytes.extend(&imported.events),
         Answer::Hand(_) => {}
+        Answer::Write(written) => bytes.extend(&written.out),
     }
     bytes
 }

@@ -2,20 +2,20 @@ use mathlib.Core.Path.{sym}
 use lib.Seq.{length-take-le, take-all}
 use native.Mathlib.Omega.{arith}
 use borrow.Author.Needs.{needs}
-use Rattle.lister.proofs.judge.front.Statement.{statement}
-use Rattle.lister.proofs.judge.front.Tie as tie
-use Rattle.lister.proofs.judge.front.Reads as reads
-use Rattle.lister.proofs.judge.front.Lts as lts
+use Rattle.intake.proofs.front.Statement.{statement}
+use Rattle.intake.proofs.front.Tie as tie
+use Rattle.intake.proofs.front.Reads as reads
+use Rattle.intake.proofs.front.Lts as lts
 
--- src/judge.rt:40:9
+-- src/lib.rt:40:9
 slice-aggregate-result : tie.Need-slice-aggregate-result
 slice-aggregate-result c = sym (length-take-le _ _ (c .before .if1 .taken))
 
--- src/judge.rt:40:9
+-- src/lib.rt:40:9
 returns : tie.Need-returns
 returns c = search needs
 
--- src/judge.rt:38:1
+-- src/lib.rt:38:1
 returns-2 : tie.Need-returns-2
 returns-2 c = sym (take-all (c .before .args .n) (c .before .args .bytes .now) (omega arith))
 

@@ -1,0 +1,113 @@
+// Input that is read to its end, however long it is. What fits in the caller's buffer is kept, and the rest is counted, so that an input
+// that is too long is told with its true length.
+ghost use mathlib.Core.Path.{_≡_};
+ghost use Prim.Native.Nat.{_+_, min};
+ghost use lib.ListN.{replicate, take};
+ghost use Rattle.io.specs.Counts.{Counts};
+
+// One byte more than the longest house file, so that a file that is too long shows.
+const FILE_ROOM: usize = 7681;
+
+// So many reads, of 4,096 bytes at most, are the most that are made of what does not fit: 4 exbibytes, far above any file.
+const MOST_READS: usize = 1125899906842624;
+
+// How the input ended after what was kept of it: so many bytes later, or by a read that failed.
+pub enum Ended {
+    After(usize),
+    Failed,
+}
+
+// What came of an input: whether it was read to its end, how many bytes of it were kept, and how many it has.
+pub struct Input {
+    pub whole: bool,
+    pub kept: usize,
+    pub length: usize,
+}
+
+// Room for a house file, and zeros in it.
+pub fn file_room() -> [u8; FILE_ROOM]
+    ensures { λ r. ⌜ r ≡ replicate 7681 0 ⌝ }
+{
+    [0; FILE_ROOM]
+}
+
+// The first n bytes, or all if there are fewer.
+pub fn front(bytes: &[u8], n: usize) -> &[u8]
+    ensures { λ r. ⌜ now r ≡ take n (now (bytes .entry)) ⌝ }
+{
+    if n <= bytes.len() {
+        return &bytes[..n];
+    }
+    bytes
+}
+
+// One read, of which nothing is kept but how it went. No bytes come at the end.
+struct Read {
+    failed: bool,
+    bytes: usize,
+}
+
+fn next(fd: i32) -> Read {
+    let mut chunk = io::buffer();
+    let got = libc::read(fd, &mut chunk);
+    Read {
+        failed: got < 0,
+        bytes: io::count(got, &chunk),
+    }
+}
+
+// Reads to the end, and keeps nothing.
+pub fn rest(fd: i32) -> Ended {
+    let mut total: usize = 0;
+    let mut reads: usize = 0;
+    while reads < MOST_READS {
+        let read = next(fd);
+        if read.failed {
+            return Ended::Failed;
+        }
+        if read.bytes == 0 {
+            return Ended::After(total);
+        }
+        total = sum(total, read.bytes);
+        reads += 1;
+    }
+    Ended::Failed
+}
+
+// The sum; where it would not fit, the most that does.
+pub fn sum(a: usize, b: usize) -> usize
+    ensures { λ r. ⌜ r ≡ min (a + b) 18446744073709551615 ⌝ }
+{
+    if a <= 18446744073709551615 - b {
+        return a + b;
+    }
+    18446744073709551615
+}
+
+// What came of an input of which n bytes were kept, in so much room. One that ended and then went on is not whole: what came between
+// was not kept.
+fn told(n: usize, room: usize, ended: Ended) -> Input
+    ensures { λ r. ⌜ r .kept ≡ n ⌝ }
+{
+    match ended {
+        Ended::Failed => Input {
+            whole: false,
+            kept: n,
+            length: n,
+        },
+        Ended::After(more) => Input {
+            whole: more == 0 || n == room,
+            kept: n,
+            length: sum(n, more),
+        },
+    }
+}
+
+// Reads an input to its end; what fits stands at the start of the buffer.
+pub fn keep(fd: i32, buffer: &mut [u8]) -> Input
+    ensures { λ r. ⌜ Counts (r .kept) (now (buffer .exit)) ⌝ }
+{
+    let n = io::read_full(fd, buffer);
+    let ended = rest(fd);
+    told(n, buffer.len(), ended)
+}

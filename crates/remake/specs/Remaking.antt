@@ -1,0 +1,40 @@
+-- A house file made from another, with other bounds or with another trace: the answer, and what it leaves in the buffer. Assumes nothing.
+use mathlib.Core.Path.{_≡_}
+use mathlib.Core.List.{List}
+use Prim.Native.Nat.{ℕ}
+use Rattle.house.specs.File.{rows-of, events-of, contents-of}
+use Rattle.house.specs.Reading.{given, verdict}
+use Rattle.house.specs.declared.answer.Contents.{Contents}
+use Rattle.house.specs.declared.answer.Refusal.{Refusal}
+use Rattle.house.specs.declared.answer.Verdict.the-variants as verdict
+use Rattle.writer.specs.Writing.{Writes}
+use Rattle.writer.specs.declared.answer.Writing.{Writing}
+use Rattle.writer.specs.declared.answer.Writing.the-variants.{Refused}
+
+-- The rooms that the file is read into: the most row bytes, and the most events, that a house file gives.
+abbrev pub row-room : ℕ
+row-room = 2048
+
+abbrev pub event-room : ℕ
+event-room = 4096
+
+-- What is to be written: the counts, the source and the rows of the file s, with these bounds and this trace.
+abbrev pub changed : List ℕ → ℕ → ℕ → List ℕ → Contents
+changed s waiting losses trace =
+    given (contents-of s .source) (contents-of s .states) (contents-of s .inputs) (contents-of s .outputs) waiting losses (rows-of s) trace
+
+-- The file s with these bounds and this trace, written into the buffer o.
+pub data Remakes (s : List ℕ) (waiting losses : ℕ) (trace o : List ℕ) : Writing → List ℕ → Type 0 where
+  -- where the reader refuses the file, that is the answer, and the buffer is as it was
+  refused : {r : Refusal} → verdict s row-room event-room ≡ verdict.Refused r → Remakes s waiting losses trace o (Refused r) o
+  -- else the writer answers
+  written : {w : Writing} {o′ : List ℕ} → verdict s row-room event-room ≡ verdict.Passed
+      → Writes (changed s waiting losses trace) (rows-of s) trace o w o′ → Remakes s waiting losses trace o w o′
+
+-- With these bounds in place of its own.
+abbrev pub Rebinds : List ℕ → ℕ → ℕ → List ℕ → Writing → List ℕ → Type 0
+Rebinds s waiting losses o w o′ = Remakes s waiting losses (events-of s) o w o′
+
+-- With this trace in place of its own.
+abbrev pub Retraces : List ℕ → List ℕ → List ℕ → Writing → List ℕ → Type 0
+Retraces s trace o w o′ = Remakes s (contents-of s .waiting) (contents-of s .losses) trace o w o′

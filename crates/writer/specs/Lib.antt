@@ -1,0 +1,4 @@
+pub mod Writing
+pub mod Layout
+pub mod Refusals
+pub mod Laws

@@ -1,0 +1,19 @@
+-- What the function wrote is what its contract says. Assumes nothing.
+use mathlib.Core.Path.{_≡_}
+use mathlib.Core.Bool.{true}
+use mathlib.Core.List.{List}
+use Prim.Native.Nat.{ℕ}
+use lib.Dec.{leb}
+use lib.ListN.{length}
+use Rattle.house.specs.File.{front}
+use Rattle.house.specs.Reading.{given}
+use Rattle.house.specs.declared.answer.Source.{Source}
+use Rattle.writer.specs.Writing.{Writes}
+use Rattle.writer.specs.declared.answer.Writing.{Writing}
+use Rattle.writerdoors.specs.Results.{write-size, write-results, WriteAnswers}
+use Rattle.writerdoors.specs.Results as doors
+
+pub writes-by : {source source′ : Source} {rows : List ℕ} {states inputs outputs waiting losses : ℕ} {trace o t o′ v t′ : List ℕ} (w : Writing)
+    → leb write-size (length t) ≡ true → source′ ≡ source → Writes (given source′ states inputs outputs waiting losses rows trace) rows trace o w o′
+    → v ≡ write-results w → t′ ≡ front t v → WriteAnswers source rows states inputs outputs waiting losses trace o t true o′ t′
+writes-by w e s f g h = rw (h, g) (doors.writes {w = w} e (rw s at f))

@@ -1,0 +1,53 @@
+-- `rillmoth_write` meets its contract. Assumes nothing.
+use borrow.Author.Tests.{lt-leb, le-leb}
+use Rattle.writerdoors.specs.Results as doors
+use Rattle.writerdoors.proofs.Answers.{writes-by}
+use borrow.Author.Needs.{needs}
+use Rattle.writerdoors.proofs.rillmoth_write.Statement.{statement}
+use Rattle.writerdoors.proofs.rillmoth_write.Tie as tie
+
+returns : tie.Need-returns
+returns c = doors.short (lt-leb _ _ (c .if1 .taken))
+
+meant-requires : tie.Need-meant-requires
+meant-requires c κs = search needs
+
+write-requires : tie.Need-write-requires
+write-requires c κs = search needs
+
+of-write-requires : tie.Need-of-write-requires
+of-write-requires c κs = search needs
+
+slice-aggregate-put : tie.Need-slice-aggregate-put
+slice-aggregate-put c = search needs
+
+put-requires : tie.Need-put-requires
+put-requires c κs = search needs
+
+same-length : tie.Need-same-length
+same-length c = search needs
+
+same-length-2 : tie.Need-same-length-2
+same-length-2 c = search needs
+
+returns-2 : tie.Need-returns-2
+returns-2 c =
+    let p = c .before .before in
+    let w = p .before .before .before in
+    let i = w .before .before .before in
+    let m = i .before .before in
+    writes-by (i .write .result) (le-leb _ _ (m .before .if1 .left)) (m .meant .ensures) (i .write .ensures) (w .of-write .ensures) (p .put .ensures)
+
+pub rillmoth-write-spec : {M : Type 1} → statement M
+rillmoth-write-spec =
+    tie.close
+    (tie.spec
+    returns
+    meant-requires
+    write-requires
+    of-write-requires
+    slice-aggregate-put
+    put-requires
+    same-length
+    same-length-2
+    returns-2)

@@ -1,0 +1,35 @@
+-- What `rillmoth_write` answers and leaves in the memory lent to it, for every input. Its answer is false exactly when the memory for its
+-- results is too short, and then nothing is written. What is longer keeps the rest. Assumes nothing.
+use mathlib.Core.Path.{_≡_}
+use mathlib.Core.Bool.{Bool, true, false, cond}
+use mathlib.Core.List.{List, [], _∷_}
+use Prim.Native.Nat.{ℕ}
+use lib.Dec.{eqb, leb}
+use lib.ListN.{length}
+use Rattle.house.specs.File.{front}
+use Rattle.house.specs.Reading.{given}
+use Rattle.house.specs.declared.answer.Source.{Source}
+use Rattle.house.specs.declared.answer.Source.the-variants.{Rows, Standard}
+use Rattle.writer.specs.Writing.{Writes}
+use Rattle.writer.specs.Refusals.{told-of, length-of}
+use Rattle.writer.specs.declared.answer.Writing.{Writing}
+
+-- The source is 0 for the rows that are given, anything else for the standard box.
+abbrev pub source-meant : ℕ → Source
+source-meant n = cond (eqb n 0) Rows Standard
+
+-- The results: the number, both places, and how many bytes the file has.
+abbrev pub write-size : ℕ
+write-size = 4
+
+abbrev pub write-results : Writing → List ℕ
+write-results w = told-of w .number ∷ told-of w .place ∷ told-of w .second ∷ length-of w ∷ []
+
+-- The results are at the start of their memory. What is in the buffer is the writer's part.
+pub data WriteAnswers (source : Source) (rows : List ℕ) (states inputs outputs waiting losses : ℕ) (trace out told : List ℕ)
+    : Bool → List ℕ → List ℕ → Type 0 where
+  short : leb write-size (length told) ≡ false
+      → WriteAnswers source rows states inputs outputs waiting losses trace out told false out told
+  writes : {w : Writing} {out′ : List ℕ} → leb write-size (length told) ≡ true
+      → Writes (given source states inputs outputs waiting losses rows trace) rows trace out w out′
+      → WriteAnswers source rows states inputs outputs waiting losses trace out told true out′ (front told (write-results w))

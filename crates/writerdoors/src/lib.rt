@@ -1,0 +1,112 @@
+// The writer of house files for programs in other languages, as the crate `doors` has the monitor for them: numbers and lent slices only. A
+// slice is passed as its address and its count of elements. The address is not null, also where the count is 0, and no slice that is
+// written to lies over another. Nothing else is asked: every input is answered. The answer is false exactly when the memory lent for
+// the results is too short, and then nothing is written; a refusal is an answer of true, with its number in the results.
+ghost use mathlib.Core.Path.{_≡_};
+ghost use Prim.Native.Nat.{_≤_};
+ghost use lib.ListN.{length};
+ghost use Rattle.house.specs.File.{front};
+ghost use Rattle.table.specs.Refusals.{told-at};
+ghost use Rattle.writer.specs.Refusals.{told-of, length-of};
+ghost use Rattle.writerdoors.specs.Results.{source-meant, write-results, WriteAnswers};
+use house::Source;
+use table::Told;
+use writer::Writing;
+
+// How many words the results are.
+const WRITE: usize = 4;
+
+// 0 is the rows that are given, anything else the standard box.
+fn meant(number: usize) -> Source
+    ensures { λ r. ⌜ r ≡ source-meant number ⌝ }
+{
+    if number == 0 {
+        Source::Rows
+    } else {
+        Source::Standard
+    }
+}
+
+// What is not refused has number 0, and places 0.
+fn nothing() -> Told
+    ensures { λ r. ⌜ r ≡ told-at 0 0 ⌝ }
+{
+    Told {
+        number: 0,
+        place: 0,
+        second: 0,
+    }
+}
+
+fn told_of(writing: Writing) -> Told
+    ensures { λ r. ⌜ r ≡ told-of writing ⌝ }
+{
+    match writing {
+        Writing::Written(_) => nothing(),
+        Writing::Refused(r) => house::tell(r),
+    }
+}
+
+fn length_of(writing: Writing) -> usize
+    ensures { λ r. ⌜ r ≡ length-of writing ⌝ }
+{
+    match writing {
+        Writing::Written(n) => n,
+        Writing::Refused(_) => 0,
+    }
+}
+
+fn of_write(writing: Writing) -> [u64; 4]
+    ensures { λ r. ⌜ r ≡ write-results writing ⌝ }
+{
+    let t = told_of(writing);
+    let n = length_of(writing);
+    [t.number as u64, t.place as u64, t.second as u64, n as u64]
+}
+
+// Copies src to the start of dst; the rest of dst stays.
+fn put(src: &[u64], dst: &mut [u64])
+    requires { ⌜ length (now src) ≤ length (now dst) ⌝ }
+    ensures { λ _. ⌜ now (dst .exit) ≡ front (now (dst .entry)) (now (src .entry)) ⌝ }
+{
+    let mut i: usize = 0;
+    while i < src.len() {
+        dst[i] = src[i];
+        i += 1;
+    }
+}
+
+// Writes a house file to the start of `out`. The source is 0 for the rows that are given, anything else for the standard box. The results
+// are number, place and second place, and how many bytes the file has.
+#[no_mangle]
+pub extern "C" fn rillmoth_write(
+    source: usize,
+    rows: &[u8],
+    states: usize,
+    inputs: usize,
+    outputs: usize,
+    waiting: usize,
+    losses: usize,
+    trace: &[u8],
+    out: &mut [u8],
+    told: &mut [u64],
+) -> bool
+    ensures { λ r. ⌜ WriteAnswers (source-meant source) (now (rows .entry)) states inputs outputs waiting losses (now (trace .entry)) (now (out .entry)) (now (told .entry)) r (now (out .exit)) (now (told .exit)) ⌝ }
+{
+    if told.len() < WRITE {
+        return false;
+    }
+    let writing = writer::write(
+        meant(source),
+        rows,
+        states,
+        inputs,
+        outputs,
+        waiting,
+        losses,
+        trace,
+        &mut *out,
+    );
+    put(&of_write(writing), &mut *told);
+    true
+}
