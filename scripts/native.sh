@@ -33,39 +33,86 @@ native_farm() { # KIT FARM KEPT
   chmod +x "$farm/on/$machine/toolchain/bin/clang"
 }
 
-# Prints the path of an archive or object with the functions of the crate NAME, for this machine, to link with the C library.
+# Prints what the crate NAME is made of: the code, definitions and proofs of it and of all that it stands on here, and crates.txt.
+native_sources() { # NAME
+  local crate
+  echo "$native_root/crates.txt"
+  for crate in $(awk -v name="$1" '
+    function reach(crate,    below, count, i) {
+      if (crate in reached) return
+      reached[crate]
+      print crate
+      count = split(on[crate], below, " ")
+      for (i = 1; i <= count; i++) reach(below[i])
+    }
+    /^[a-z]+:/ { crate = $1; sub(/:$/, "", crate); $1 = ""; on[crate] = $0 }
+    END { reach(name) }' "$native_root/crates.txt"); do
+    # The kit's own crates are not here.
+    [ ! -d "$native_root/crates/$crate" ] || printf '%s\n' "$native_root/crates/$crate"/{src,specs,proofs}
+  done
+}
+
+# Whether the file LIBRARY is there, and nothing that the crate NAME is made of is newer.
+native_fresh() { # LIBRARY NAME
+  local sources
+  mapfile -t sources < <(native_sources "$2")
+  [ -e "$1" ] && [ -z "$(find "${sources[@]}" -newer "$1" -type f -print -quit)" ]
+}
+
+# Prints the path of the archive with the functions of the crate NAME that is delivered, for x86-64.
 # It is made anew only where something that it is made of is newer.
-native_library() { # NAME
-  local name=$1 machine kit built log library
-  machine=$(uname -m)
-  kit_find || return 1
-  kit=$(cd "$kit_tools/../../.." && pwd -P)
-  built=$native_root/target/native
-  mkdir -p "$built"
-  case $machine in
-    x86_64) library=$native_root/target/staticlib/lib$name.a ;;
-    *) library=$built/$name.o ;;
-  esac
-  if [ -e "$library" ] && [ -z "$(find "$native_root/crates" "$native_root/crates.txt" -newer "$library" -type f -print -quit)" ]; then
-    echo "$library"
+delivered_library() { # NAME
+  local name=$1 library=$native_root/target/staticlib/lib$1.a log=$native_root/target/native/$1.log
+  if ! native_fresh "$library" "$name"; then
+    echo "Proving and compiling the crate $name: this is done once, and takes some minutes." >&2
+    mkdir -p "$native_root/target/native"
+    (cd "$native_root" && rt staticlib "$name") >"$log" 2>&1 || { tail -n 20 "$log" >&2; return 1; }
+  fi
+  echo "$library"
+}
+
+# Prints the path of the module that the kit hands to its compiler for the crate NAME.
+# It is made anew only where something that it is made of is newer.
+native_module() { # NAME
+  local name=$1 built=$native_root/target/native kit log module
+  module=$built/$name.bc log=$built/$name.log
+  if native_fresh "$module" "$name"; then
+    echo "$module"
     return 0
   fi
   echo "Proving and compiling the crate $name: this is done once, and takes some minutes." >&2
-  log=$built/$name.log
-  if [ "$machine" = x86_64 ]; then
-    (cd "$native_root" && rt staticlib "$name") >"$log" 2>&1 || { tail -n 20 "$log" >&2; return 1; }
-  else
-    rm -f "$built/$name.bc"
-    # The clang of the kit is several programs by its name; the links keep those names.
-    native_farm "$kit" "$built/kit" "$built/$name.bc" || return 1
-    (cd "$native_root" && RATTLE_HOME=$built/kit rt staticlib "$name") >"$log" 2>&1 || { tail -n 20 "$log" >&2; return 1; }
-    if [ ! -s "$built/$name.bc" ]; then
-      echo "The kit compiled no module for the crate $name." >&2
-      return 1
-    fi
-    # The module names x86-64 as its processor, of which clang warns and which it then leaves aside.
-    "$kit_tools/bin/clang" --target="$machine-unknown-linux-gnu" --no-default-config -Wno-override-module -O3 -fPIC -c -x ir \
-      "$built/$name.bc" -o "$library" >>"$log" 2>&1 || { tail -n 20 "$log" >&2; return 1; }
+  kit_find || return 1
+  kit=$(cd "$kit_tools/../../.." && pwd -P)
+  mkdir -p "$built"
+  rm -f "$module"
+  # The clang of the kit is several programs by its name; the links keep those names.
+  native_farm "$kit" "$built/kit" "$module" || return 1
+  (cd "$native_root" && RATTLE_HOME=$built/kit rt staticlib "$name") >"$log" 2>&1 || { tail -n 20 "$log" >&2; return 1; }
+  if [ ! -s "$module" ]; then
+    echo "The kit compiled no module for the crate $name." >&2
+    return 1
+  fi
+  echo "$module"
+}
+
+# Compiles MODULE, as bits or as text, to OBJECT for this machine, as the kit does. Says nothing but where it fails.
+native_compile() { # MODULE OBJECT
+  # A module names x86-64 as its processor, of which clang warns and which it then leaves aside.
+  "$kit_tools/bin/clang" --target="$(uname -m)-unknown-linux-gnu" --no-default-config -Wno-override-module -O3 -fPIC -c -x ir "$1" \
+    -o "$2" >"$2.log" 2>&1 || { tail -n 20 "$2.log" >&2; return 1; }
+}
+
+# Prints the path of an archive or object with the functions of the crate NAME, for this machine, to link with the C library.
+# It is made anew only where something that it is made of is newer.
+native_library() { # NAME
+  local name=$1 module library=$native_root/target/native/$1.o
+  kit_find || return 1
+  if [ "$(uname -m)" = x86_64 ]; then
+    delivered_library "$name"
+    return
+  fi
+  if ! native_fresh "$library" "$name"; then
+    module=$(native_module "$name") && native_compile "$module" "$library" || return 1
   fi
   echo "$library"
 }

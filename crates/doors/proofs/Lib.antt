@@ -4,5 +4,6 @@ mod Layouts
 mod Flags
 mod Answers
 mod Lies
+mod Kept
 mod After
 mod Unique

@@ -17,7 +17,7 @@ use Rattle.doors.proofs.Layouts.{flag-kept, flag-back}
 seen : (w : List ℕ) → session-words ≤ length w → drop 264 w ≡ getD w 264 0 ∷ getD w 265 0 ∷ getD w 266 0 ∷ drop 267 w
 seen w h = drop-cons w 264 0 (omega arith) ∙ ap (λ (r : List ℕ). getD w 264 0 ∷ r) (drop-cons w 265 0 (omega arith) ∙ ap (λ (r : List ℕ). getD w 265 0 ∷ r) (drop-cons w 266 0 (omega arith)))
 
-counts : (b : List ℕ) → session-bytes ≤ length b
+pub counts : (b : List ℕ) → session-bytes ≤ length b
     → drop 2080 b ≡ getD b 2080 0 ∷ getD b 2081 0 ∷ getD b 2082 0 ∷ getD b 2083 0 ∷ getD b 2084 0 ∷ drop 2085 b
 counts b h =
     drop-cons b 2080 0 (omega arith)

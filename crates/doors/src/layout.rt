@@ -2,6 +2,7 @@
 ghost use mathlib.Core.Path.{_≡_};
 ghost use Prim.Native.Nat.{_^_, _≤_, _<_};
 ghost use lib.ListN.{length, take};
+ghost use lib.Seq.{paste};
 ghost use Rattle.house.specs.File.{front};
 ghost use Rattle.doors.specs.Layout.{session-words, session-bytes, flag-word, flag-in, words-of, bytes-of, session-in};
 use crate::memory;
@@ -132,4 +133,13 @@ pub(crate) fn put_bytes(bytes: &mut [u8], s: Session)
     memory::copy_bytes(&s.rows, &mut *bytes, 0);
     memory::copy_bytes(&s.held, &mut *bytes, HELD);
     memory::copy_bytes(&counts, &mut *bytes, COUNTS);
+}
+
+// Puts held inputs at their place; the rest of the memory stays. Of a session's bytes a feed changes no others: to put them all back would
+// take a second copy of the rows.
+pub(crate) fn put_held(bytes: &mut [u8], held: [u8; 32])
+    requires { ⌜ session-bytes ≤ length (now bytes) ⌝ }
+    ensures { λ _. ⌜ now (bytes .exit) ≡ paste (now (bytes .entry)) 2048 held (length held) ⌝ }
+{
+    memory::copy_bytes(&held, &mut *bytes, HELD);
 }

@@ -77,7 +77,8 @@ pub extern "C" fn rillmoth_feed(
     let test = fed.test;
     let s = fed.session;
     layout::put_words(&mut *words, s);
-    layout::put_bytes(&mut *bytes, s);
+    let held = s.held;
+    layout::put_held(&mut *bytes, held);
     memory::copy_words(&results::of_test(test), &mut *told, 0);
     true
 }

@@ -85,17 +85,17 @@ fn send(s: Session, a: u8) -> Session
     ensures { λ r. ⌜ FedTo s (128 + a) r ⌝ }
 {
     let n = sound::held_count(s.waiting, s.arrived);
-    let held = s.held;
     let mut set = s.set;
     event::sent(
         &mut set,
-        &held,
+        &s.held,
         &s.rows,
         s.inputs + s.outputs,
         s.inputs + a,
         s.losses as usize,
         n,
     );
+    let held = s.held;
     moved_on(s, set, held, s.arrived)
 }
 

@@ -14,24 +14,26 @@ pub enum Flag {
 }
 
 // A session carries its table, bounds, plausible set, newest inputs, counts of events and inputs, and the place of the first
-// flagged event, if any.
+// flagged event, if any. The words stand before the bytes, so that no two fields have a gap between them: with one the compiler takes a
+// copy of the set for something else than the set, and keeps it on the stack.
 pub struct Session {
-    // The table: its counts, and its rows packed one after another, zeros after.
-    pub states: u8,
-    pub inputs: u8,
-    pub outputs: u8,
-    pub rows: [u8; 2048],
-    // The bounds, B and c.
-    pub waiting: u8,
-    pub losses: u8,
     // A word for each waiting count and run: that of waiting w and run r at 8 w + r, bit s for state s.
     pub set: [u64; 264],
-    // The newest inputs, B of them or all seen if fewer, oldest first, zeros after.
-    pub held: [u8; 32],
     // Events seen, and inputs among them.
     pub events: usize,
     pub arrived: usize,
     pub flag: Flag,
+    // The table's rows, packed one after another, zeros after.
+    pub rows: [u8; 2048],
+    // The newest inputs, B of them or all seen if fewer, oldest first, zeros after.
+    pub held: [u8; 32],
+    // The table's counts.
+    pub states: u8,
+    pub inputs: u8,
+    pub outputs: u8,
+    // The bounds, B and c.
+    pub waiting: u8,
+    pub losses: u8,
 }
 
 // How an opening ends, and the session: of zeros only, where it was refused.

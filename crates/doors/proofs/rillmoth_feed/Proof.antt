@@ -1,4 +1,8 @@
 -- `rillmoth_feed` meets its contract. Assumes nothing.
+use mathlib.Core.Path.{_≡_}
+use Rattle.monitor.specs.Feed.{Feeds}
+use Rattle.doors.specs.Layout.{session-in}
+use Rattle.doors.proofs.Kept.{fed-alike, fed-held, held-put}
 use Rattle.doors.proofs.Layouts.{proper-in}
 use Rattle.doors.proofs.Flags.{fed-small}
 use Rattle.doors.proofs.Answers.{room, told-put, feeds-by}
@@ -30,9 +34,9 @@ put-words-requires c κs =
     let p = proper-in (c .before .before .before .before .before .before .before .before .before .before .before .args .words .now) (c .before .before .before .before .before .before .before .before .before .before .before .args .bytes .now) (r .words) (r .bytes) in
     (r .words, fed-small (c .before .before .before .session-in .result) (c .before .before .before .before .before .before .before .before .before .before .before .args .byte) (c .before .before .feed .result) (rw (e .0) p) (e .1) (c .before .before .feed .ensures))
 
-put-bytes-requires : tie.Need-put-bytes-requires
-put-bytes-requires c κs =
-    let r = room (c .before .before .before .before .before .before .before .before .before .before .before .before .before .before .before .args .words .now) (c .before .before .before .before .before .before .before .before .before .before .before .before .before .before .before .args .bytes .now) (c .before .before .before .before .before .before .before .before .before .before .before .before .before .before .before .args .told .now) (passed _ (c .before .before .before .before .before .before .before .before .before .before .before .roomy .ensures) (c .before .before .before .before .before .before .before .before .before .before .if1 .left)) in
+put-held-requires : tie.Need-put-held-requires
+put-held-requires c κs =
+    let r = room (c .before .before .before .before .before .before .before .before .before .before .before .before .before .before .before .before .args .words .now) (c .before .before .before .before .before .before .before .before .before .before .before .before .before .before .before .before .args .bytes .now) (c .before .before .before .before .before .before .before .before .before .before .before .before .before .before .before .before .args .told .now) (passed _ (c .before .before .before .before .before .before .before .before .before .before .before .before .roomy .ensures) (c .before .before .before .before .before .before .before .before .before .before .before .if1 .left)) in
     r .bytes
 
 of-test-requires : tie.Need-of-test-requires
@@ -43,7 +47,7 @@ slice-aggregate-copy-words c = search needs
 
 copy-words-requires : tie.Need-copy-words-requires
 copy-words-requires c κs =
-    let r = room (c .before .before .before .before .before .before .before .before .before .before .before .before .before .before .before .before .before .before .before .before .before .args .words .now) (c .before .before .before .before .before .before .before .before .before .before .before .before .before .before .before .before .before .before .before .before .before .args .bytes .now) (c .before .before .before .before .before .before .before .before .before .before .before .before .before .before .before .before .before .before .before .before .before .args .told .now) (passed _ (c .before .before .before .before .before .before .before .before .before .before .before .before .before .before .before .before .before .roomy .ensures) (c .before .before .before .before .before .before .before .before .before .before .before .before .before .before .before .before .if1 .left)) in
+    let r = room (c .before .before .before .before .before .before .before .before .before .before .before .before .before .before .before .before .before .before .before .before .before .before .args .words .now) (c .before .before .before .before .before .before .before .before .before .before .before .before .before .before .before .before .before .before .before .before .before .before .args .bytes .now) (c .before .before .before .before .before .before .before .before .before .before .before .before .before .before .before .before .before .before .before .before .before .before .args .told .now) (passed _ (c .before .before .before .before .before .before .before .before .before .before .before .before .before .before .before .before .before .before .roomy .ensures) (c .before .before .before .before .before .before .before .before .before .before .before .before .before .before .before .before .before .if1 .left)) in
     omega (arith, r .told)
 
 same-length : tie.Need-same-length
@@ -57,12 +61,20 @@ same-length-3 c = search needs
 
 returns-2 : tie.Need-returns-2
 returns-2 c =
+    let at = c .before .before .before .before .before .before .before .before .before .before .before .before .before .before .before .before .before .before .before .before .before .before .before .before .before .args in
+    let w = at .words .now in
+    let b = at .bytes .now in
+    let enough = passed _ (c .before .before .before .before .before .before .before .before .before .before .before .before .before .before .before .before .before .before .before .before .before .roomy .ensures) (c .before .before .before .before .before .before .before .before .before .before .before .before .before .before .before .before .before .before .before .before .if1 .left) in
+    let f = c .before .before .before .before .before .before .before .before .before .before .before .before .before .before .before .before .feed .result in
+    let e : Feeds (session-in w b) (at .byte) f = rw (c .before .before .before .before .before .before .before .before .before .before .before .before .before .before .before .before .before .session-in .ensures .0) at (c .before .before .before .before .before .before .before .before .before .before .before .before .before .before .before .before .feed .ensures) in
+    let r = room w b (at .told .now) enough in
+    let n = fed-held _ _ _ (proper-in w b (r .words) (r .bytes) .held) e in
     feeds-by
-    (c .before .before .before .before .before .before .before .before .before .before .before .before .before .before .before .feed .result)
-    (passed _ (c .before .before .before .before .before .before .before .before .before .before .before .before .before .before .before .before .before .before .before .before .roomy .ensures) (c .before .before .before .before .before .before .before .before .before .before .before .before .before .before .before .before .before .before .before .if1 .left))
-    (rw (c .before .before .before .before .before .before .before .before .before .before .before .before .before .before .before .before .session-in .ensures .0) at (c .before .before .before .before .before .before .before .before .before .before .before .before .before .before .before .feed .ensures))
-    (c .before .before .before .before .before .before .before .before .before .before .before .before .put-words .ensures)
-    (c .before .before .before .before .before .before .before .before .put-bytes .ensures)
+    f
+    enough
+    e
+    (c .before .before .before .before .before .before .before .before .before .before .before .before .before .put-words .ensures)
+    (held-put w b _ (f .session) (r .bytes) n (fed-alike _ _ _ e) (c .before .before .before .before .before .before .before .before .put-held .ensures))
     (told-put _ _ _ _ (c .before .before .before .before .before .of-test .ensures) (c .before .before .copy-words .ensures))
 
 pub rillmoth-feed-spec : {M : Type 1} → statement M
@@ -74,7 +86,7 @@ rillmoth-feed-spec =
     session-in-requires
     feed-requires
     put-words-requires
-    put-bytes-requires
+    put-held-requires
     of-test-requires
     slice-aggregate-copy-words
     copy-words-requires

@@ -36,7 +36,7 @@ moved-on-requires c κs = search needs
 -- src/feed.rt:74:1
 returns : tie.Need-returns
 returns c =
-    let d = c .before .sent .ensures in
+    let d = c .before .before .sent .ensures in
     sent-to _ (c .before .before .before .before .before .before .before .before .before .before .pre .0) (d .long) _ _ _ _ (c .before .before .before .before .before .before .before .before .before .before .pre .2) (c .before .before .before .before .before .before .before .before .before .held-count .ensures) d (c .moved-on .ensures)
 
 pub send-spec : {M : Type 1} → statement M
