@@ -14,10 +14,10 @@ struct column_in_parts {
     static constexpr size_t parts_of(size_t states) { return (states + part_states - 1) / part_states; }
     using tables_of_column = uint64_t[parts_of(most_states)][part_images];
 
-    // The states of each mask move on by its distance, modulo 64.
-    uint64_t near_mask = 0, far_mask = 0;
+    // The states that stay; and two masks whose states move on by their distance, modulo 64.
+    uint64_t stays = 0, near_mask = 0, far_mask = 0;
     unsigned near = 0, far = 0;
-    bool rotates = true;  // whether the two masks hold all states that the column allows
+    bool rotates = true;  // whether the three hold all states that the column allows
     unsigned uses = 0;
     uint64_t allowed = 0;
     uint8_t to[64];
@@ -31,17 +31,21 @@ struct column_in_parts {
             if (t == not_allowed) continue;
             uint64_t bit = 1ull << s;
             unsigned distance = (t - s) & 63;
+            allowed |= bit;
+            if (distance == 0) {
+                stays |= bit;
+                continue;
+            }
             if (near_mask == 0) near = distance;
             if (distance == near) {
                 near_mask |= bit;
-            } else {
-                if (far_mask == 0) far = distance;
-                if (distance == far)
-                    far_mask |= bit;
-                else
-                    rotates = false;
+                continue;
             }
-            allowed |= bit;
+            if (far_mask == 0) far = distance;
+            if (distance == far)
+                far_mask |= bit;
+            else
+                rotates = false;
         }
     }
 
@@ -58,9 +62,11 @@ struct column_in_parts {
         tables = room;
     }
 
-    // Images of a set: where every allowed state is in one of the two masks; through tables that are made, of states below `states`;
+    // Images of a set: where every allowed state is in one of the three masks; through tables that are made, of states below `states`;
     // and one state at a time.
-    uint64_t image_by_rotation(uint64_t set) const { return rotated(set & near_mask, near) | rotated(set & far_mask, far); }
+    uint64_t image_by_rotation(uint64_t set) const {
+        return (set & stays) | rotated(set & near_mask, near) | rotated(set & far_mask, far);
+    }
 
     template <size_t states>
     uint64_t image_by_tables(uint64_t set) const {

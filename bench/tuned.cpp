@@ -13,7 +13,7 @@
 //                F[w - 1] gains the image of F[w] to F[w + c - 1] under the input at the head of a line of w;
 //   the summary  needs the union of all F[j] and the least and the greatest j whose F[j] is not empty.
 //
-// An image is one or two masked rotations where the column moves states by at most two distances, as every column of the standard box
+// An image is a mask and two masked rotations where the column moves no states but by two distances, as every column of the standard box
 // does; otherwise looks into tables of images, which are made where a column is used often enough.
 //
 // FEED. A session may come from elsewhere and need not be closed, so the 264 words are worked on where they lie: every clause of

@@ -32,7 +32,8 @@ using generator = std::mt19937_64;
 
 inline size_t below(generator &random, size_t n) { return random() % n; }
 
-// State e + 16 p: e is the next poll number expected, p the polls taken and not yet reported.
+// State e + 16 p: e is the next poll number expected, p the polls taken and not yet reported. With nothing unreported the poll before the
+// one expected has the box send its report again.
 inline table standard_box() {
     table box = {64, 16, 16, std::vector<uint8_t>(64 * 32, not_allowed)};
     for (size_t p = 0; p < 4; ++p)
@@ -44,6 +45,7 @@ inline table standard_box() {
                 else if (p < 3)
                     row[a] = uint8_t((e + 1) % 16 + 16 * (p + 1));
             }
+            if (p == 0) row[(e + 15) % 16] = uint8_t(e + 16);
             if (p > 0) row[16 + (e + 16 - p) % 16] = uint8_t(e + 16 * (p - 1));
         }
     return box;

@@ -1,5 +1,5 @@
 #!/usr/bin/env python3
-"""What crates/cases must write, worked out from document 01 alone.
+"""What crates/cases must write, worked out from documents 01 and 02 alone.
 
     tests/oracle.py            prints it
     tests/oracle.py --check    compares it with crates/cases/stdout; the last line is 'N passed, M failed', where N is the
@@ -290,6 +290,8 @@ def standard_entry(state, column):
     """The standard box's rule: e is the next poll number expected, p the polls taken and not yet reported."""
     e, p = state % 16, state // 16
     if column < 16:
+        if p == 0 and column == (e - 1) % 16:
+            return e + 16
         if column != e:
             return state
         return (e + 1) % 16 + 16 * (p + 1) if p < 3 else NOT_ALLOWED
@@ -400,7 +402,7 @@ STATED = {
 STATED_OPENINGS = {(32, 8): None, (33, 8): 5, (32, 9): 6, (32, 0): 6, (0, 0): 5}
 
 # Of the standard box's entries: row, column, entry.
-STATED_ENTRIES = [(0, 0, 17), (17, 16, 1), (1, 0, 1), (48, 29, 32), (48, 0, 255), (48, 5, 48)]
+STATED_ENTRIES = [(0, 0, 17), (17, 16, 1), (1, 0, 17), (48, 29, 32), (48, 0, 255), (48, 5, 48)]
 
 
 @dataclass

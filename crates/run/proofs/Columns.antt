@@ -152,21 +152,22 @@ module _ (f : ℕ → ℕ) (n : ℕ) (x : List ℕ) (h : SortedBy f n x) where
     keeps : (w s : ℕ) → In s w → In s (bitOr w (1 * 2 ^ n % 2 ^ 64))
     keeps w s i = in-or s w (1 * 2 ^ n % 2 ^ 64) .1 (inl i)
 
-    pub sorted-near : (getD x 0 0 ≡ 0) ⊎ (getD x 1 0 ≡ d) → SortedBy f (n + 1) (set (set x 0 (bitOr (getD x 0 0) (1 * 2 ^ n % 2 ^ 64))) 1 d)
-    sorted-near fits =
+    pub sorted-near : getD x 1 0 ≡ d → SortedBy f (n + 1) (set x 0 (bitOr (getD x 0 0) (1 * 2 ^ n % 2 ^ 64)))
+    sorted-near same =
         let size = h .size in
-        let l₁ : length (set x 0 (bitOr (getD x 0 0) (1 * 2 ^ n % 2 ^ 64))) ≡ 5 = length-set x 0 _ ∙ h .size in
-        let e₀ : getD (set (set x 0 (bitOr (getD x 0 0) (1 * 2 ^ n % 2 ^ 64))) 1 d) 0 0 ≡ bitOr (getD x 0 0) (1 * 2 ^ n % 2 ^ 64) = getD-set-other (set x 0 (bitOr (getD x 0 0) (1 * 2 ^ n % 2 ^ 64))) 1 0 d 0 (λ e. omega arith) ∙ getD-set-same x 0 (bitOr (getD x 0 0) (1 * 2 ^ n % 2 ^ 64)) 0 (omega arith) in
-        let e₁ : getD (set (set x 0 (bitOr (getD x 0 0) (1 * 2 ^ n % 2 ^ 64))) 1 d) 1 0 ≡ d = getD-set-same (set x 0 (bitOr (getD x 0 0) (1 * 2 ^ n % 2 ^ 64))) 1 d 0 (omega arith) in
-        let e : (i : ℕ) → 2 ≤ i → getD (set (set x 0 (bitOr (getD x 0 0) (1 * 2 ^ n % 2 ^ 64))) 1 d) i 0 ≡ getD x i 0 =
-        λ i l. getD-set-other (set x 0 (bitOr (getD x 0 0) (1 * 2 ^ n % 2 ^ 64))) 1 i d 0 (λ e. omega arith) ∙ getD-set-other x 0 i (bitOr (getD x 0 0) (1 * 2 ^ n % 2 ^ 64)) 0 (λ e. omega arith) in
+        let e₀ : getD (set x 0 (bitOr (getD x 0 0) (1 * 2 ^ n % 2 ^ 64))) 0 0 ≡ bitOr (getD x 0 0) (1 * 2 ^ n % 2 ^ 64) = getD-set-same x 0 _ 0 (omega arith) in
+        let e : (i : ℕ) → i ≢ 0 → getD (set x 0 (bitOr (getD x 0 0) (1 * 2 ^ n % 2 ^ 64))) i 0 ≡ getD x i 0 = λ i a. getD-set-other x 0 i _ 0 a in
+        let f₁ : getD (set x 0 (bitOr (getD x 0 0) (1 * 2 ^ n % 2 ^ 64))) 1 0 ≡ d = e 1 (λ e. omega arith) ∙ same in
+        let f₂ = e 2 (λ e. omega arith) in
+        let f₃ = e 3 (λ e. omega arith) in
+        let f₄ = e 4 (λ e. omega arith) in
         record {
-          size = length-set (set x 0 (bitOr (getD x 0 0) (1 * 2 ^ n % 2 ^ 64))) 1 d ∙ l₁;
-          near = rw (e₀, e₁) (moves-more f n (getD x 0 0) (getD x 1 0) d few small leads fits (h .near));
-          far = rw (e 2 (omega arith), e 3 (omega arith)) (moves-keep f n (h .far));
-          rest-below = λ s i. let l = h .rest-below s (rw (e 4 (omega arith)) at i) in omega arith;
-          rest-leads = λ s i. h .rest-leads s (rw (e 4 (omega arith)) at i);
-          all = rw (e₀, e 2 (omega arith), e 4 (omega arith)) (below-more (λ s. In s (bitOr (getD x 0 0) (1 * 2 ^ n % 2 ^ 64)) ⊎ (Has x 2 s ⊎ Has x 4 s))
+          size = length-set x 0 _ ∙ h .size;
+          near = rw (e₀, f₁) (moves-more f n (getD x 0 0) (getD x 1 0) d few small leads (inr same) (h .near));
+          far = rw (f₂, f₃) (moves-keep f n (h .far));
+          rest-below = λ s i. let l = h .rest-below s (rw f₄ at i) in omega arith;
+          rest-leads = λ s i. h .rest-leads s (rw f₄ at i);
+          all = rw (e₀, f₂, f₄) (below-more (λ s. In s (bitOr (getD x 0 0) (1 * 2 ^ n % 2 ^ 64)) ⊎ (Has x 2 s ⊎ Has x 4 s))
               (λ s l m. ⊎-elim (λ i. inl (keeps (getD x 0 0) s i)) inr (h .all s l m)) (λ m. inl (joins (getD x 0 0))));
         }
 

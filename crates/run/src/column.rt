@@ -1,5 +1,6 @@
-// The columns of a table, ready to take images of sets of states. Most columns move their states on by one or two distances, modulo 64:
-// those states are kept as two masks, and their image is two turns of a word. What else a column allows is led state by state.
+// The columns of a table, ready to take images of sets of states. Most columns leave states where they are and move others on by one
+// distance, modulo 64: those states are kept as two masks, and their image is two turns of a word. What else a column allows is led state
+// by state.
 // A column is five words, and the columns stand one after another: the first mask and its distance, the second and its own, and the rest.
 ghost use mathlib.Core.Path.{_≡_};
 ghost use mathlib.Core.Bool.{true};
@@ -29,7 +30,7 @@ fn distance(s: usize, t: u8) -> u64
     (t as u64 + 64 - s as u64) % 64
 }
 
-// Whether a state that moves on by d can join a mask: one that has none yet, or moves by the same.
+// Whether a state that moves on by d can join the second mask: one that has none yet, or moves by the same.
 fn fits(mask: u64, by: u64, d: u64) -> bool
     ensures { λ r. ⌜ (r ≡ true → (mask ≡ 0) ⊎ (by ≡ d)) ⌝ }
 {
@@ -50,9 +51,9 @@ fn sorted(x: [u64; 5], s: usize, t: u8) -> [u64; 5]
     }
     let d = distance(s, t);
     let one = 1u64 << s;
-    if fits(x[0], x[1], d) {
+    // The first distance is 0 from the start: the states that stay, mostly the most. They never fall to the rest.
+    if x[1] == d {
         r[0] = x[0] | one;
-        r[1] = d;
         return r;
     }
     if fits(x[2], x[3], d) {

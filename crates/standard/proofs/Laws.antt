@@ -1,18 +1,24 @@
--- Every statement of specs/Laws.antt, proved: other crates take the laws from here. Assumes nothing.
-use mathlib.Core.Path.{_≡_, _∙_, sym}
-use mathlib.Core.Bool.{_&&_, and-eq-true-iff}
+-- Every statement of specs/Laws.antt, proved: other crates take the laws from here; and what became of the entries of document 01, whose
+-- statements stand in proofs/Before.antt with the rule of that time. Assumes nothing.
+use mathlib.Core.Path.{_≡_, refl, _∙_, sym}
+use mathlib.Core.Bool.{Bool, true, _&&_, and-eq-true-iff}
 use mathlib.Core.List.{List, [], _∷_, List·Memᴰ as In, List·Memᴰ·not-nil as not-nil, List·Memᴰ·cases-cons as cases-cons}
 use mathlib.Core.Logic.{⊎-elim}
-use Prim.Native.Nat.{ℕ, _+_, _-_}
+use mathlib.Core.Option.{some}
+use Prim.Native.Nat.{ℕ, _+_, _-_, _%_}
 use native.Mathlib.Omega.{arith}
 use lib.Dec.{T, ltb, eqb, lit<}
 use borrow.Author.Tests.{lt-ltb, le-ltb, ltb-true, eqb-true, eq-eqb}
 use Rattle.model.specs.Table.{entry}
+use Rattle.table.proofs.Checks.{both}
 use Rattle.table.proofs.Laws.{table-passes}
-use Rattle.standard.specs.Rule.{states, inputs, outputs, state, expected, unreported, after-input, after-output, rule}
+use Rattle.standard.specs.Rule.{states, inputs, outputs, numbers, state, expected, unreported, after-input, after-output, rule}
 use Rattle.standard.specs.Box.{columns, standard-table}
-use Rattle.standard.specs.Laws.{EveryEntry, EveryState, IsValid, Passes, OnlyCounts, Citation, cited, column, CitedHold}
+use Rattle.standard.specs.Laws.{EveryEntry, EveryState, EveryReport, IsValid, Passes, OnlyCounts, Citation, cited, column, CitedHold}
+use Rattle.standard.proofs.Listed.{every, at, same, same-equal}
 use Rattle.standard.proofs.Entries
+use Rattle.standard.proofs.Before.{OtherEntriesStay, SixteenChange, NeitherWider}
+use Rattle.standard.proofs.Became
 
 pub every-entry : EveryEntry
 every-entry = Entries.every-entry
@@ -28,6 +34,41 @@ every-state e p h l =
           let b-is : inputs + b - inputs ≡ b = omega arith in
           every-entry (state e p) (inputs + b) (omega arith) (omega arith) ∙ rw (le-ltb (inputs + b) inputs (omega arith), e-is, p-is, b-is);
     }
+
+-- The poll before the one expected leads to one unreported, and its report back: tested in each row.
+unfoldable last : ℕ → ℕ
+last e = (e + numbers - 1) % numbers
+
+abbrev repeats : ℕ → Bool
+repeats e = same (after-input e 0 (last e)) (some (e + numbers)) && same (after-output e 1 (last e)) (some e)
+
+tested : every repeats 0 numbers ≡ true
+unfolding last after-input after-output
+tested = refl
+
+pub every-report : EveryReport
+unfolding last
+every-report e h =
+    let none-left : state e 0 ≡ e = omega arith in
+    let here : 0 + e ≡ e = omega arith in
+    let test : repeats e ≡ true = rw here at (at repeats 0 numbers e tested h) in
+    let (asked, sent) = both (same (after-input e 0 (last e)) (some (e + numbers))) (same (after-output e 1 (last e)) (some e)) test in
+    let asks : after-input e 0 (last e) ≡ some (e + numbers) = same-equal (after-input e 0 (last e)) (some (e + numbers)) asked in
+    let sends : after-output e 1 (last e) ≡ some e = same-equal (after-output e 1 (last e)) (some e) sent in
+    record {
+      asked = rw none-left at (every-state e 0 h (omega arith) .input (last e) (omega arith)) ∙ asks;
+      sent = every-state e 1 h (omega arith) .output (last e) (omega arith) ∙ sends;
+    }
+
+-- What the repeated report changed.
+pub other-entries-stay : OtherEntriesStay
+other-entries-stay = Became.other-entries-stay
+
+pub sixteen-change : SixteenChange
+sixteen-change = Became.sixteen-change
+
+pub neither-wider : NeitherWider
+neither-wider = Became.neither-wider
 
 pub is-valid : IsValid
 unfolding Entries.inside

@@ -1,3 +1,5 @@
 pub mod Listed
 pub mod Entries
+pub mod Before
+pub mod Became
 pub mod Laws

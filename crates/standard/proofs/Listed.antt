@@ -1,9 +1,13 @@
 -- What stands in a list of values, and a test of every value that the checker computes, carried to each. Assumes nothing.
 use mathlib.Core.Path.{_≡_, refl, ap}
-use mathlib.Core.Bool.{Bool, true, _&&_, and-eq-true-iff}
+use mathlib.Core.Bool.{Bool, true, false, _&&_, and-eq-true-iff}
+use mathlib.Core.Option.{Option, some, none}
 use Prim.Native.Nat.{ℕ, zero, suc, _+_, _<_}
 use native.Mathlib.Omega.{arith}
+use lib.Dec.{eqb}
 use lib.ListN.{length, getD}
+use borrow.Author.Tests.{eqb-true}
+use Rattle.table.proofs.Checks.{clash}
 use Rattle.standard.specs.Box.{listed}
 
 pub listed-length : (f : ℕ → ℕ) (i n : ℕ) → length (listed f i n) ≡ n
@@ -28,3 +32,16 @@ at test i (suc n) zero t h = let e : i + 0 ≡ i = omega arith in rw e (and-eq-t
 at test i (suc n) (suc k) t h =
     let e : i + suc k ≡ suc i + k = omega arith in
     rw e (at test (suc i) n k (and-eq-true-iff (test i) (every test (suc i) n) .0 t .1) (omega arith))
+
+-- Whether two entries are the same.
+abbrev pub same : Option ℕ → Option ℕ → Bool
+same none none = true
+same none (some b) = false
+same (some a) none = false
+same (some a) (some b) = eqb a b
+
+pub same-equal : (x y : Option ℕ) → same x y ≡ true → x ≡ y
+same-equal none none t = refl
+same-equal none (some b) t = clash (cc)
+same-equal (some a) none t = clash (cc)
+same-equal (some a) (some b) t = ap some (eqb-true a b t)

@@ -4,7 +4,7 @@ use mathlib.Core.Bool.{true}
 use mathlib.Core.List.{List, [], _∷_, List·Memᴰ as In}
 use mathlib.Core.Logic.{_↔_}
 use mathlib.Core.Option.{Option, some, none}
-use Prim.Native.Nat.{ℕ, _+_, _≤_, _<_}
+use Prim.Native.Nat.{ℕ, _+_, _-_, _%_, _≤_, _<_}
 use lib.ListN.{length}
 use Rattle.model.specs.Table.{entry, Valid}
 use Rattle.model.specs.Model.{box, Event, input, output}
@@ -25,6 +25,14 @@ pub record Follows (e p : ℕ) : Type 0 where
 abbrev pub EveryState : Type 0
 EveryState = (e p : ℕ) → e < numbers → p ≤ most-unreported → Follows e p
 
+-- Document 02: in row e, with nothing unreported, input (e − 1) modulo 16 gives e + 16, for row 0 too; and there the box sends that report.
+pub record Repeats (e a : ℕ) : Type 0 where
+  pub asked : box standard-table .taken e a ≡ some (e + numbers)
+  pub sent : box standard-table .sent (e + numbers) a ≡ some e
+
+abbrev pub EveryReport : Type 0
+EveryReport = (e : ℕ) → e < numbers → Repeats e ((e + numbers - 1) % numbers)
+
 -- Its table is valid,
 abbrev pub IsValid : Type 0
 IsValid = Valid standard-table
@@ -39,7 +47,7 @@ pub record Passes : Type 0 where
 abbrev pub OnlyCounts : Type 0
 OnlyCounts = (s i o : ℕ) → standard-counts s i o ≡ true ↔ ((s ≡ states) × (i ≡ inputs) × (o ≡ outputs))
 
--- An entry that document 01 cites: its row, the input or output of its column, and its next state, or none where it is 255.
+-- An entry that the documents cite: its row, the input or output of its column, and its next state, or none where it is 255.
 pub record Citation : Type 0 where
   pub row : ℕ
   pub symbol : Event
@@ -48,13 +56,13 @@ pub record Citation : Type 0 where
 abbrev cite : ℕ → Event → Option ℕ → Citation
 cite s e t = record { row = s; symbol = e; next = t }
 
--- Row 0, input 0 gives 17; row 17, output 0 gives 1; row 1, input 0 gives 1; row 48, output 13 gives 32; row 48, input 0 is 255; row 48,
--- input 5 gives 48.
+-- Row 0, input 0 gives 17; row 17, output 0 gives 1; row 1, input 0 becomes 17 (document 02; it was 1); row 48, output 13 gives 32; row 48,
+-- input 0 is 255; row 48, input 5 gives 48.
 unfoldable pub cited : List Citation
 cited =
     cite 0 (input 0) (some 17)
     ∷ cite 17 (output 0) (some 1)
-    ∷ cite 1 (input 0) (some 1)
+    ∷ cite 1 (input 0) (some 17)
     ∷ cite 48 (output 13) (some 32)
     ∷ cite 48 (input 0) none
     ∷ cite 48 (input 5) (some 48)

@@ -1,4 +1,4 @@
--- Document 01, "The standard box": its rule, sentence by sentence. Assumes nothing.
+-- Document 01, "The standard box", and document 02, L5: its rule, sentence by sentence. Assumes nothing.
 use mathlib.Core.Bool.{cond, _&&_}
 use mathlib.Core.Option.{Option, some, none}
 use Prim.Native.Nat.{ℕ, _+_, _-_, _*_, _/_, _%_}
@@ -33,11 +33,16 @@ expected s = s % numbers
 abbrev pub unreported : ℕ → ℕ
 unreported s = s / numbers
 
+-- An input a that differs from e: the state stays; but (document 02) with nothing unreported (p = 0), a poll numbered (e − 1) modulo 16
+-- makes the box ready to send that report again: row e gives e + 16.
+abbrev pub after-other : ℕ → ℕ → ℕ → ℕ
+after-other e p a = cond (eqb p 0 && eqb a ((e + numbers - 1) % numbers)) (state e 1) (state e p)
+
 -- Input a: if a = e and p < 3, then e becomes (e + 1) modulo 16 and p grows by one; if a = e and p = 3, not allowed; if a differs
--- from e, the state stays.
+-- from e, as above.
 unfoldable pub after-input : ℕ → ℕ → ℕ → Option ℕ
 after-input e p a =
-    cond (eqb a e) (cond (ltb p most-unreported) (some (state ((e + 1) % numbers) (p + 1))) none) (some (state e p))
+    cond (eqb a e) (cond (ltb p most-unreported) (some (state ((e + 1) % numbers) (p + 1))) none) (some (after-other e p a))
 
 -- Output b: if p > 0 and b = (e − p) modulo 16, p falls by one; otherwise not allowed. A difference here ends at 0, so 16 is added first.
 unfoldable pub after-output : ℕ → ℕ → ℕ → Option ℕ

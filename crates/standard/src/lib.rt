@@ -28,7 +28,7 @@ pub fn rows() -> [u8; LENGTH]
 }
 
 // A row for each state: 16 inputs, then 16 outputs. Beside the first entry of a row stand its number, the poll number that the box expects
-// next, and the polls taken and not yet reported.
+// next, and the polls taken and not yet reported; beside the one entry of rows 0 to 15 that has the box send a report again, that report.
 const ROWS: [u8; LENGTH] = [
     17, // row 0: 0 expected, 0 unreported
     0,
@@ -45,7 +45,7 @@ const ROWS: [u8; LENGTH] = [
     0,
     0,
     0,
-    0,
+    16, // repeats report 15
     255,
     255,
     255,
@@ -62,7 +62,7 @@ const ROWS: [u8; LENGTH] = [
     255,
     255,
     255,
-    1, // row 1: 1 expected, 0 unreported
+    17, // row 1: 1 expected, 0 unreported; repeats report 0
     18,
     1,
     1,
@@ -95,7 +95,7 @@ const ROWS: [u8; LENGTH] = [
     255,
     255,
     2, // row 2: 2 expected, 0 unreported
-    2,
+    18, // repeats report 1
     19,
     2,
     2,
@@ -128,7 +128,7 @@ const ROWS: [u8; LENGTH] = [
     255,
     3, // row 3: 3 expected, 0 unreported
     3,
-    3,
+    19, // repeats report 2
     20,
     3,
     3,
@@ -161,7 +161,7 @@ const ROWS: [u8; LENGTH] = [
     4, // row 4: 4 expected, 0 unreported
     4,
     4,
-    4,
+    20, // repeats report 3
     21,
     4,
     4,
@@ -194,7 +194,7 @@ const ROWS: [u8; LENGTH] = [
     5,
     5,
     5,
-    5,
+    21, // repeats report 4
     22,
     5,
     5,
@@ -227,7 +227,7 @@ const ROWS: [u8; LENGTH] = [
     6,
     6,
     6,
-    6,
+    22, // repeats report 5
     23,
     6,
     6,
@@ -260,7 +260,7 @@ const ROWS: [u8; LENGTH] = [
     7,
     7,
     7,
-    7,
+    23, // repeats report 6
     24,
     7,
     7,
@@ -293,7 +293,7 @@ const ROWS: [u8; LENGTH] = [
     8,
     8,
     8,
-    8,
+    24, // repeats report 7
     25,
     8,
     8,
@@ -326,7 +326,7 @@ const ROWS: [u8; LENGTH] = [
     9,
     9,
     9,
-    9,
+    25, // repeats report 8
     26,
     9,
     9,
@@ -359,7 +359,7 @@ const ROWS: [u8; LENGTH] = [
     10,
     10,
     10,
-    10,
+    26, // repeats report 9
     27,
     10,
     10,
@@ -392,7 +392,7 @@ const ROWS: [u8; LENGTH] = [
     11,
     11,
     11,
-    11,
+    27, // repeats report 10
     28,
     11,
     11,
@@ -425,7 +425,7 @@ const ROWS: [u8; LENGTH] = [
     12,
     12,
     12,
-    12,
+    28, // repeats report 11
     29,
     12,
     12,
@@ -458,7 +458,7 @@ const ROWS: [u8; LENGTH] = [
     13,
     13,
     13,
-    13,
+    29, // repeats report 12
     30,
     13,
     13,
@@ -491,7 +491,7 @@ const ROWS: [u8; LENGTH] = [
     14,
     14,
     14,
-    14,
+    30, // repeats report 13
     31,
     14,
     255,
@@ -524,7 +524,7 @@ const ROWS: [u8; LENGTH] = [
     15,
     15,
     15,
-    15,
+    31, // repeats report 14
     16,
     255,
     255,

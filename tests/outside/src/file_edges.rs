@@ -27,6 +27,7 @@ pub fn edges() -> Vec<Case> {
     files.extend(flaw_edges());
     files.extend(order_edges());
     files.extend(most_edges());
+    files.extend(repeat_edges());
     let mut cases = Vec::new();
     for file in files {
         cases.push(Case::Read { file: file.clone(), row_room: 2100, event_room: 4200 });
@@ -317,6 +318,31 @@ fn most_edges() -> Vec<Vec<u8>> {
     let mut short = written(&small(vec![0; 13 * PAYLOAD]));
     short.extend(block(EVENTS, 15, &[0]));
     files.push(short);
+    files
+}
+
+/// The standard box is polled again, by each number, with nothing lost: after its report, and before it.
+fn repeat_edges() -> Vec<Vec<u8>> {
+    let bounds = Bounds { waiting: 4, losses: 1 };
+    let mut files = Vec::new();
+    for number in 0..16 {
+        let before: Vec<u8> = (0..number).flat_map(|n| [n, 128 + n]).collect();
+        let (last, next) = ((number + 15) % 16, (number + 1) % 16);
+        for asked in [
+            vec![last, 128 + last],
+            vec![last, 128 + last, 128 + last],
+            vec![last, last, 128 + last, number, 128 + number],
+            vec![last, number, 128 + number],
+            vec![number, number, 128 + number, 128 + number],
+            vec![number, next, next, 128 + number, 128 + next, 128 + next],
+            vec![next, 128 + next],
+        ] {
+            let events = [before.clone(), asked].concat();
+            let content =
+                Content { source: 1, rows: Vec::new(), ..content_of(&tables::standard_box(), bounds, events) };
+            files.push(written(&content));
+        }
+    }
     files
 }
 

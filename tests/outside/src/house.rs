@@ -35,7 +35,11 @@ pub struct Content {
 impl Content {
     /// Counts, bounds and rows as the tests want them; with source 1 and no rows the standard box's.
     pub fn offered(&self) -> Offered {
-        let rows = if self.source == 1 && self.rows.is_empty() { standard::rows() } else { self.rows.clone() };
+        self.offered_as(Wrong::Nothing)
+    }
+
+    pub fn offered_as(&self, wrong: Wrong) -> Offered {
+        let rows = if self.source == 1 && self.rows.is_empty() { standard::rows_as(wrong) } else { self.rows.clone() };
         Offered {
             states: self.states as u64,
             inputs: self.inputs as u64,

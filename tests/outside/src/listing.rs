@@ -29,7 +29,7 @@ pub fn list(file: &[u8], wrong: Wrong) -> Listed {
             return Listed { text: refused(&refusal, wrong), outcome: REFUSED };
         }
     };
-    let (figures, flag) = judged(&content.offered(), &content.events, wrong);
+    let (figures, flag) = judged(&content.offered_as(wrong), &content.events, wrong);
     let mut text = String::from("event symbol states waiting run\n");
     for (event, figure) in figures.iter().enumerate() {
         text += &line(event, content.events[event], figure, wrong);

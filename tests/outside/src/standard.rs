@@ -1,20 +1,25 @@
 //! The standard box, worked out from its rule: no entry is written down here.
 
 use crate::model::NOT_ALLOWED;
+use crate::wrong::Wrong;
 
 pub const STATES: usize = 64;
 pub const INPUTS: usize = 16;
 pub const OUTPUTS: usize = 16;
 
+pub fn rows() -> Vec<u8> {
+    rows_as(Wrong::Nothing)
+}
+
 /// The rows of the standard box. State e + 16p: e is the next poll number expected, p the polls
 /// taken and not yet reported.
-pub fn rows() -> Vec<u8> {
+pub fn rows_as(wrong: Wrong) -> Vec<u8> {
     let mut rows = Vec::new();
     for state in 0..STATES {
         let expected = state % 16;
         let unreported = state / 16;
         for poll in 0..INPUTS {
-            rows.push(polled(expected, unreported, poll));
+            rows.push(polled(expected, unreported, poll, wrong));
         }
         for report in 0..OUTPUTS {
             rows.push(reported(expected, unreported, report));
@@ -27,13 +32,24 @@ fn state(expected: usize, unreported: usize) -> u8 {
     (expected + 16 * unreported) as u8
 }
 
-fn polled(expected: usize, unreported: usize, poll: usize) -> u8 {
-    if poll != expected {
-        state(expected, unreported)
-    } else if unreported < 3 {
-        state((expected + 1) % 16, unreported + 1)
-    } else {
-        NOT_ALLOWED
+fn polled(expected: usize, unreported: usize, poll: usize, wrong: Wrong) -> u8 {
+    if poll == expected {
+        return if unreported < 3 { state((expected + 1) % 16, unreported + 1) } else { NOT_ALLOWED };
+    }
+    if asks_again(expected, unreported, poll, wrong) {
+        return state(expected, unreported + 1);
+    }
+    state(expected, unreported)
+}
+
+/// Whether a poll makes the box ready to send its last report again.
+fn asks_again(expected: usize, unreported: usize, poll: usize, wrong: Wrong) -> bool {
+    let met = poll == (expected + 15) % 16;
+    match wrong {
+        Wrong::RepeatIgnored => false,
+        Wrong::RepeatNotInRowZero => met && unreported == 0 && expected > 0,
+        Wrong::RepeatsWhileUnreported => met && unreported < 3,
+        _ => met && unreported == 0,
     }
 }
 
@@ -54,13 +70,23 @@ mod tests {
     }
 
     #[test]
-    fn entries_that_document_01_cites() {
+    fn entries_that_the_documents_cite() {
         assert_eq!(rows().len(), 2048);
         assert_eq!(entry(0, 0), 17);
         assert_eq!(entry(17, INPUTS), 1);
-        assert_eq!(entry(1, 0), 1);
+        assert_eq!(entry(1, 0), 17);
         assert_eq!(entry(48, INPUTS + 13), 32);
         assert_eq!(entry(48, 0), 255);
         assert_eq!(entry(48, 5), 48);
+    }
+    #[test]
+    fn sixteen_entries_are_not_document_01s() {
+        let before = rows_as(Wrong::RepeatIgnored);
+        let places: Vec<usize> = (0..2048).filter(|place| rows()[*place] != before[*place]).collect();
+        let repeats: Vec<usize> = (0..16).map(|row| row * (INPUTS + OUTPUTS) + (row + 15) % 16).collect();
+        assert_eq!(places, repeats);
+        for row in 0..16 {
+            assert_eq!((before[repeats[row]], rows()[repeats[row]]), (row as u8, row as u8 + 16));
+        }
     }
 }

@@ -89,6 +89,10 @@ wrong_monitors! {
     OffsetOfLastStray: "tells the last byte that should be zero",
     OffsetInPayload: "counts the offset of 23 from the payload's start",
     OffsetInFile: "counts the offset from the file's start",
+    // The standard box.
+    RepeatIgnored: "has the standard box ignore a poll that it has already met",
+    RepeatNotInRowZero: "has the standard box repeat no report in row 0",
+    RepeatsWhileUnreported: "has the standard box repeat a report while others are unreported",
     // Captures.
     OrderIgnored: "reads every capture least byte first",
     LinkLowByte: "looks at the low byte of the link type only",

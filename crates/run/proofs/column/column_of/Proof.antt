@@ -20,38 +20,38 @@ Inv-loop rows width column x₀ s₀ x s = (s ≤ 64) × Sorted rows width colum
 abbrev μ-loop : tie.MeasureT-loop
 μ-loop rows width column x₀ s₀ x s = 64 - s
 
--- src/column.rt:73:5
+-- src/column.rt:74:5
 loop-holds : tie.Need-loop-holds Inv-loop μ-loop
 unfolding zeros
 loop-holds c = (omega arith, sorted-none _ _ (length-zeros 5) (zeros-at 5))
 
--- src/column.rt:74:51
+-- src/column.rt:75:51
 cast-byte : tie.Need-cast-byte Inv-loop μ-loop
 cast-byte c = search needs
 
--- src/column.rt:74:13
+-- src/column.rt:75:13
 byte-requires : tie.Need-byte-requires Inv-loop μ-loop
 byte-requires c κs = search needs
 
--- src/column.rt:75:13
+-- src/column.rt:76:13
 sorted-requires : tie.Need-sorted-requires Inv-loop μ-loop
 sorted-requires c κs = search needs
 
--- src/column.rt:77:9
+-- src/column.rt:78:9
 add-s : tie.Need-add-s Inv-loop μ-loop
 add-s c = search needs
 
--- src/column.rt:73:5
+-- src/column.rt:74:5
 loop-less : tie.Need-loop-less Inv-loop μ-loop
 loop-less c = search needs
 
--- src/column.rt:73:5
+-- src/column.rt:74:5
 loop-again : tie.Need-loop-again Inv-loop μ-loop
 loop-again c =
     let l = c .before .before .before .loop in
     (omega arith, c .sorted .ensures (byteAt (c .before .before .before .before .before .args .rows .now) (c .before .before .before .before .before .args .width) (c .before .before .before .before .before .args .column)) (sym (c .before .byte .ensures)) (l .inv .1))
 
--- src/column.rt:68:1
+-- src/column.rt:69:1
 returns : tie.Need-returns Inv-loop μ-loop
 returns c = (let e : c .before .loop .s ≡ 64 = omega arith in rw e at (c .before .loop .inv .1))
 

@@ -7,11 +7,11 @@ use Rattle.run.proofs.column.fits.Tie as tie
 use Rattle.run.proofs.column.fits.Reads as reads
 use Rattle.run.proofs.column.fits.Lts as lts
 
--- src/column.rt:37:9
+-- src/column.rt:38:9
 returns : tie.Need-returns
 returns c = λ e. inl (c .if1 .taken)
 
--- src/column.rt:33:1
+-- src/column.rt:34:1
 returns-2 : tie.Need-returns-2
 returns-2 c = λ e. inr (eqb-true _ _ e)
 

@@ -15,47 +15,47 @@ Inv-loop columns₀ k x i₀ columns i = (i ≤ 5) × (length columns₀ ≡ 160
 abbrev μ-loop : tie.MeasureT-loop
 μ-loop columns₀ k x i₀ columns i = 5 - i
 
--- src/column.rt:88:5
+-- src/column.rt:89:5
 loop-holds : tie.Need-loop-holds Inv-loop μ-loop
 loop-holds c = (omega arith, c .pre .1, written-none _ _ _)
 
--- src/column.rt:89:30
+-- src/column.rt:90:30
 mul-columns : tie.Need-mul-columns Inv-loop μ-loop
 mul-columns c = search needs
 
--- src/column.rt:89:30
+-- src/column.rt:90:30
 array-read-columns : tie.Need-array-read-columns Inv-loop μ-loop
 array-read-columns c = search needs
 
--- src/column.rt:89:17
+-- src/column.rt:90:17
 mul-columns-2 : tie.Need-mul-columns-2 Inv-loop μ-loop
 mul-columns-2 c = search needs
 
--- src/column.rt:89:17
+-- src/column.rt:90:17
 add-columns : tie.Need-add-columns Inv-loop μ-loop
 add-columns c = search needs
 
--- src/column.rt:89:9
+-- src/column.rt:90:9
 mul-columns-3 : tie.Need-mul-columns-3 Inv-loop μ-loop
 mul-columns-3 c = search needs
 
--- src/column.rt:89:9
+-- src/column.rt:90:9
 element-write-columns : tie.Need-element-write-columns Inv-loop μ-loop
 element-write-columns c = let v = c .before .loop .inv in omega (arith, v .2 .size)
 
--- src/column.rt:90:9
+-- src/column.rt:91:9
 add-i : tie.Need-add-i Inv-loop μ-loop
 add-i c = search needs
 
--- src/column.rt:88:5
+-- src/column.rt:89:5
 loop-less : tie.Need-loop-less Inv-loop μ-loop
 loop-less c = search needs
 
--- src/column.rt:88:5
+-- src/column.rt:89:5
 loop-again : tie.Need-loop-again Inv-loop μ-loop
 loop-again c = let l = c .before .loop in (omega arith, l .inv .1, written-more _ _ _ _ (l .columns) _ _ refl (omega (arith, l .inv .2 .size)) refl (l .inv .2))
 
--- src/column.rt:83:1
+-- src/column.rt:84:1
 returns : tie.Need-returns Inv-loop μ-loop
 returns c =
     let e : c .before .loop .i ≡ 5 = omega arith in

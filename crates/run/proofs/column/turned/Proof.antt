@@ -6,23 +6,23 @@ use Rattle.run.proofs.column.turned.Tie as tie
 use Rattle.run.proofs.column.turned.Reads as reads
 use Rattle.run.proofs.column.turned.Lts as lts
 
--- src/column.rt:19:9
+-- src/column.rt:20:9
 returns : tie.Need-returns
 returns c = λ t. turned-none _ _ t (omega arith) (c .if1 .taken)
 
--- src/column.rt:21:6
+-- src/column.rt:22:6
 shl-result : tie.Need-shl-result
 shl-result c = search needs
 
--- src/column.rt:21:23
+-- src/column.rt:22:23
 sub-result : tie.Need-sub-result
 sub-result c = search needs
 
--- src/column.rt:21:17
+-- src/column.rt:22:17
 shr-result : tie.Need-shr-result
 shr-result c = search needs
 
--- src/column.rt:14:1
+-- src/column.rt:15:1
 returns-2 : tie.Need-returns-2
 returns-2 c = λ t. turned-is _ _ t (omega arith) (omega arith) (c .before .pre)
 
