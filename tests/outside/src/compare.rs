@@ -1,4 +1,4 @@
-//! The generated cases through the driver, each answer compared with this package's own; and the same
+//! The generated cases through every driver, each answer compared with this package's own; and the same
 //! cases through the wrong monitors, which the right one must be told apart from.
 
 use crate::case::{Answer, Case, FUNCTIONS};
@@ -50,66 +50,107 @@ impl Tally {
         }
     }
 
-    fn compare(&mut self, number: usize, case: &Case, answer: &Answer) {
-        let right = case.answer(Wrong::Nothing);
-        if right == *answer {
-            self.passed[case.function()] += 1;
-            self.met.insert((case.function(), right.number()));
-            let outcome = if right.number() != 0 { 2 } else { right.flagged() as usize };
-            self.outcomes[case.function()][outcome] += 1;
-        } else {
-            self.fail(number, case, &report::difference(&right, answer));
-        }
+    /// A case in which every driver gave the right answer.
+    fn agree(&mut self, case: &Case, right: &Answer) {
+        self.passed[case.function()] += 1;
+        self.met.insert((case.function(), right.number()));
+        let outcome = if right.number() != 0 { 2 } else { right.flagged() as usize };
+        self.outcomes[case.function()][outcome] += 1;
     }
 }
 
-/// Sends all batches and compares all answers. A driver that is lost costs the case it did not answer.
-pub fn compare(start: &Start, seed: u64, batches: &mut dyn Iterator<Item = Vec<Case>>, first: usize) -> Tally {
+/// A driver, if it runs, and how often it was lost.
+struct Asked<'a> {
+    start: &'a Start,
+    driver: Option<Driver>,
+    lost: usize,
+}
+
+impl<'a> Asked<'a> {
+    fn new(start: &'a Start, tally: &mut Tally) -> Asked<'a> {
+        Asked { start, driver: started(start, tally), lost: 0 }
+    }
+
+    fn send(&mut self, cases: Arc<Vec<Case>>) {
+        if let Some(driver) = &mut self.driver {
+            driver.send(cases);
+        }
+    }
+
+    /// Whether its answer to a case is this one. A driver that is lost costs the case it did not answer; it is started again, and
+    /// handed the rest. One that is gone for good fails every case, and is not told again.
+    fn agrees(&mut self, at: &At, right: &Answer, tally: &mut Tally) -> bool {
+        let Some(driver) = &mut self.driver else {
+            tally.failed += 1;
+            return false;
+        };
+        match driver.answer(at.case()) {
+            Ok(answer) if answer == *right => return true,
+            Ok(answer) => {
+                let why = format!("{}: {}", self.start.path, report::difference(right, &answer));
+                tally.fail(at.number, at.case(), &why);
+            }
+            Err(Lost { why, hangs }) => {
+                tally.fail(at.number, at.case(), &format!("{}: {why}", self.start.path));
+                self.lost += 1;
+                // A driver that hangs is not tried again: it would cost a minute each time.
+                self.driver = if self.lost < MOST_LOST && !hangs { started(self.start, tally) } else { None };
+                self.send(Arc::new(at.cases[at.place + 1..].to_vec()));
+                for cases in at.under_way {
+                    self.send(cases.clone());
+                }
+            }
+        }
+        false
+    }
+}
+
+/// A case among those of its batch, its number among all, and the batches that come after it and are handed over already.
+struct At<'a> {
+    number: usize,
+    cases: &'a [Case],
+    place: usize,
+    under_way: &'a VecDeque<Arc<Vec<Case>>>,
+}
+
+impl At<'_> {
+    fn case(&self) -> &Case {
+        &self.cases[self.place]
+    }
+}
+
+/// Sends all batches to every driver and compares all answers.
+pub fn compare(starts: &[Start], seed: u64, batches: &mut dyn Iterator<Item = Vec<Case>>, first: usize) -> Tally {
     let mut tally = Tally { seed, ..Tally::default() };
     let mut number = first;
-    let mut lost = 0;
-    let mut driver = started(start, &mut tally);
+    let mut drivers: Vec<Asked> = starts.iter().map(|start| Asked::new(start, &mut tally)).collect();
     let mut under_way: VecDeque<Arc<Vec<Case>>> = VecDeque::new();
     loop {
         while under_way.len() < UNDER_WAY {
-            match batches.next() {
-                Some(cases) => {
-                    let cases = Arc::new(cases);
-                    if let Some(driver) = &mut driver {
-                        driver.send(cases.clone());
-                    }
-                    under_way.push_back(cases);
-                }
-                None => break,
+            let Some(cases) = batches.next() else { break };
+            let cases = Arc::new(cases);
+            for driver in &mut drivers {
+                driver.send(cases.clone());
             }
+            under_way.push_back(cases);
         }
         let Some(cases) = under_way.pop_front() else { break };
         for (place, case) in cases.iter().enumerate() {
-            let Some(asked) = &mut driver else {
-                tally.failed += 1;
-                continue;
-            };
-            match asked.answer(case) {
-                Ok(answer) => tally.compare(number + place, case, &answer),
-                Err(Lost { why, hangs }) => {
-                    tally.fail(number + place, case, &why);
-                    lost += 1;
-                    // A driver that hangs is not tried again: it would cost a minute each time.
-                    driver = if lost < MOST_LOST && !hangs { started(start, &mut tally) } else { None };
-                    if let Some(driver) = &mut driver {
-                        driver.send(Arc::new(cases[place + 1..].to_vec()));
-                        for cases in &under_way {
-                            driver.send(cases.clone());
-                        }
-                    }
-                }
+            let right = case.answer(Wrong::Nothing);
+            let at = At { number: number + place, cases: &cases, place, under_way: &under_way };
+            let mut agreed = true;
+            for driver in &mut drivers {
+                agreed &= driver.agrees(&at, &right, &mut tally);
+            }
+            if agreed {
+                tally.agree(case, &right);
             }
         }
         number += cases.len();
     }
-    if let Some(driver) = driver {
-        if let Err(why) = driver.finish() {
-            println!("FAILED after the last case: {why}");
+    for Asked { start, driver, .. } in drivers {
+        if let Some(Err(why)) = driver.map(Driver::finish) {
+            println!("FAILED after the last case: {}: {why}", start.path);
             tally.failed += 1;
         }
     }

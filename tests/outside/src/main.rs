@@ -36,12 +36,13 @@ use std::process::ExitCode;
 use std::time::{Duration, Instant};
 use wrong::Wrong;
 
-const USAGE: &str = "outside --driver PATH | --self [--as WRONG]   compare the driver at PATH, or this package itself
+const USAGE: &str =
+    "outside --driver PATH.. | --self [--as WRONG]   compare the drivers at these paths, or this package itself
   --seed N    another seed
   --soak N    N times as many random cases
   --full      a run of 1,048,576 events too, and ten minutes for it
   --case N    one case only, told in full
-outside --serve [WRONG]                       be a driver";
+outside --serve [WRONG]                         be a driver";
 
 const BATCHES: u64 = 30;
 
@@ -53,7 +54,8 @@ struct Asked {
     soak: u64,
     full: bool,
     case: Option<usize>,
-    start: Start,
+    patience: Duration,
+    starts: Vec<Start>,
 }
 
 fn main() -> ExitCode {
@@ -76,8 +78,8 @@ fn main() -> ExitCode {
 }
 
 fn asked(arguments: &[String]) -> Option<Asked> {
-    let start = Start { path: String::new(), arguments: Vec::new(), patience: Duration::from_secs(60) };
-    let mut asked = Asked { seed: 1, soak: 1, full: false, case: None, start };
+    let patience = Duration::from_secs(60);
+    let mut asked = Asked { seed: 1, soak: 1, full: false, case: None, patience, starts: Vec::new() };
     let mut rest = arguments.iter();
     while let Some(argument) = rest.next() {
         match argument.as_str() {
@@ -85,23 +87,26 @@ fn asked(arguments: &[String]) -> Option<Asked> {
             "--soak" => asked.soak = rest.next()?.parse().ok()?,
             "--full" => {
                 asked.full = true;
-                asked.start.patience = Duration::from_secs(600);
+                asked.patience = Duration::from_secs(600);
             }
             "--case" => asked.case = Some(rest.next()?.parse().ok()?),
-            "--driver" => asked.start.path = rest.next()?.clone(),
+            "--driver" => asked.starts.push(Start { path: rest.next()?.clone(), arguments: Vec::new(), patience }),
             "--self" => {
-                asked.start.path = std::env::current_exe().ok()?.to_str()?.to_string();
-                asked.start.arguments = vec![String::from("--serve")];
+                let path = std::env::current_exe().ok()?.to_str()?.to_string();
+                asked.starts.push(Start { path, arguments: vec![String::from("--serve")], patience });
             }
             "--as" => {
                 let name = rest.next()?;
                 wrong::named(name)?;
-                asked.start.arguments.push(name.clone());
+                asked.starts.last_mut()?.arguments.push(name.clone());
             }
             _ => return None,
         }
     }
-    if asked.start.path.is_empty() {
+    for start in &mut asked.starts {
+        start.patience = asked.patience;
+    }
+    if asked.starts.is_empty() {
         None
     } else {
         Some(asked)
@@ -131,13 +136,13 @@ fn work(asked: &Asked) -> ExitCode {
             println!("FAILED: there is no case {number}");
             failed += 1;
         }
-        let tally = compare::compare(&asked.start, asked.seed, &mut std::iter::once(only), number);
+        let tally = compare::compare(&asked.starts, asked.seed, &mut std::iter::once(only), number);
         passed += tally.passed.iter().sum::<usize>();
         failed += tally.failed;
     } else {
         let begun = Instant::now();
         let mut all = batches(&edges, asked.seed, BATCHES * asked.soak, asked.full);
-        let tally = compare::compare(&asked.start, asked.seed, &mut all, 0);
+        let tally = compare::compare(&asked.starts, asked.seed, &mut all, 0);
         compared(&tally, &mut passed, &mut failed);
         println!("compared in {:.1} s", begun.elapsed().as_secs_f64());
         let begun = Instant::now();

@@ -1,0 +1,150 @@
+//! The samples of this repository through the door: what is read, fed, run, written and listed of them.
+
+use rillmoth::{Bounds, Capture, House, Line, Outcome, Refusal, Session, Table, LINE_BYTES, NOT_ALLOWED};
+use std::fs::{self, File};
+use std::io::{self, Read, Seek};
+use std::path::PathBuf;
+
+const GOOD: [&str; 4] = ["consistent", "lost", "queue", "flagged"];
+
+fn repository() -> PathBuf {
+    PathBuf::from(env!("CARGO_MANIFEST_DIR")).join("..")
+}
+
+fn sample(name: &str) -> Vec<u8> {
+    fs::read(repository().join("samples").join(name)).expect("a sample")
+}
+
+#[test]
+fn feeding_and_running_agree_line_by_line() {
+    for name in GOOD {
+        let house = House::read(&sample(&format!("{name}.house"))).expect("a good file");
+        let mut out = vec![0; LINE_BYTES * house.events.len()];
+        let flag = rillmoth::run(&house.table(), house.bounds, &house.events, &mut out).expect("a run");
+        let mut session = Session::open(&house.table(), house.bounds).expect("a session");
+        for (event, line) in house.events.iter().zip(rillmoth::lines(&out)) {
+            session.feed(*event).expect("a fed session");
+            assert_eq!(session.line(), line);
+        }
+        assert_eq!(session.flag(), flag);
+        assert_eq!(session.events(), house.events.len() as u64);
+    }
+}
+
+#[test]
+fn what_was_read_is_written_again() {
+    for name in GOOD {
+        let file = sample(&format!("{name}.house"));
+        let house = House::read(&file).expect("a good file");
+        assert_eq!(house.write(), Ok(file));
+    }
+    assert_eq!(House::read(&sample("damaged.house")), Err(Refusal::BadCheck { block: 1 }));
+}
+
+#[test]
+fn the_listing_is_the_stored_one() -> io::Result<()> {
+    let outcomes = GOOD.map(|name| (name, if name == "flagged" { Outcome::Flagged } else { Outcome::Consistent }));
+    for (name, outcome) in outcomes.into_iter().chain([("damaged", Outcome::Refused)]) {
+        let file = File::open(repository().join(format!("samples/{name}.house")))?;
+        let path = std::env::temp_dir().join(format!("rillmoth-{}-{name}", std::process::id()));
+        let mut text = File::options().read(true).write(true).create_new(true).open(&path)?;
+        fs::remove_file(&path)?;
+        assert_eq!(rillmoth::list(&file, &text), outcome);
+        let mut listed = Vec::new();
+        text.rewind()?;
+        text.read_to_end(&mut listed)?;
+        assert_eq!(listed, sample(&format!("{name}.listing")));
+    }
+    Ok(())
+}
+
+#[test]
+fn a_closed_output_breaks_a_listing() -> io::Result<()> {
+    let file = File::open(repository().join("samples/queue.house"))?;
+    let nowhere = File::open("/dev/null")?; // open to be read only
+    assert_eq!(rillmoth::list(&file, &nowhere), Outcome::Broken);
+    Ok(())
+}
+
+/// In state e + 16p poll e is expected, and p polls are taken and not yet reported. With none unreported, the poll before the expected one
+/// has its report sent again.
+fn rule(state: usize, column: usize) -> u8 {
+    let (expected, unreported) = (state % 16, state / 16);
+    let next = if column < 16 {
+        let last = (expected + 15) % 16;
+        match (column == expected, unreported) {
+            (true, 3) => None,
+            (true, _) => Some((expected + 1) % 16 + 16 * (unreported + 1)),
+            (false, 0) if column == last => Some(state + 16),
+            (false, _) => Some(state),
+        }
+    } else {
+        let oldest = (expected + 16 - unreported) % 16;
+        (unreported > 0 && column - 16 == oldest).then(|| state - 16)
+    };
+    next.map_or(NOT_ALLOWED, |state| state as u8)
+}
+
+#[test]
+fn the_standard_box_follows_its_rule() {
+    let rows = rillmoth::standard_rows();
+    for (place, entry) in rows.iter().enumerate() {
+        assert_eq!(*entry, rule(place / 32, place % 32), "byte {place}");
+    }
+}
+
+#[test]
+fn a_session_is_its_words_and_bytes() {
+    let table = Table { states: 64, inputs: 16, outputs: 16, rows: &rillmoth::standard_rows() };
+    let mut session = Session::open(&table, Bounds { waiting: 8, losses: 1 }).expect("a session");
+    session.feed(rillmoth::input(0)).expect("a fed session");
+    let mut kept = Session::from_parts(*session.words(), *session.bytes());
+    assert_eq!(kept, session);
+    kept.feed(rillmoth::output(0)).expect("a fed session");
+    assert_eq!((kept.events(), kept.arrived(), session.events()), (2, 1, 1));
+}
+
+#[test]
+fn a_session_that_is_not_sound_is_refused_and_stays() {
+    let table = Table { states: 2, inputs: 1, outputs: 2, rows: &[1, 255, 255, 255, 0, 0] };
+    let bounds = Bounds { waiting: 2, losses: 1 };
+    let session = Session::open(&table, bounds).expect("a session");
+    let mut words = *session.words();
+    words[0] |= 4; // a state that the table has not
+    let damaged = Session::from_parts(words, *session.bytes());
+    let mut fed = damaged.clone();
+    assert_eq!(fed.feed(0), Err(Refusal::NotSound));
+    assert_eq!(fed, damaged);
+
+    let mut reopened = session;
+    assert_eq!(reopened.reopen(&table, Bounds { waiting: 33, losses: 1 }), Err(Refusal::BadWaiting { waiting: 33 }));
+    assert_eq!(reopened.line(), Line { states: 0, waiting: None, run: None });
+    assert_eq!(reopened.feed(0), Err(Refusal::NotSound));
+}
+
+#[test]
+fn a_capture_is_imported_or_handed_out() -> io::Result<()> {
+    let capture = fs::read(repository().join("tests/captures/poll_and_report.pcap"))?;
+    let mut events = [7; 16];
+    let count = rillmoth::import(&capture, &mut events).expect("an import");
+    let mut reader = Capture::new(&capture);
+    for event in &events[..count] {
+        assert_eq!(reader.hand(), Ok(Some(*event)));
+    }
+    assert_eq!(reader.hand(), Ok(None));
+    assert_eq!(reader.place(), count);
+    assert!(events[count..].iter().all(|byte| *byte == 7));
+    assert_eq!(rillmoth::import(&capture, &mut []), Err(Refusal::ShortBuffer { needed: count as u64 }));
+    assert_eq!(Capture::new(&capture[..23]).hand(), Err(Refusal::BadHeader));
+    Ok(())
+}
+
+#[test]
+fn nothing_is_a_slice_too() {
+    let table = Table { states: 0, inputs: 0, outputs: 0, rows: &[] };
+    let bounds = Bounds { waiting: 0, losses: 0 };
+    assert_eq!(Session::open(&table, bounds), Err(Refusal::BadStates { count: 0 }));
+    assert_eq!(rillmoth::run(&table, bounds, &[], &mut []), Err(Refusal::BadStates { count: 0 }));
+    assert_eq!(rillmoth::read(&[], &mut [], &mut []), Err(Refusal::BadLength { length: 0 }));
+    assert_eq!(rillmoth::import(&[], &mut []), Err(Refusal::BadHeader));
+}

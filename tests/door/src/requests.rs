@@ -1,0 +1,144 @@
+//! The requests, each through the Rust door and back into the figures of its answer.
+
+use crate::wire::{Input, Output, UNTOUCHED};
+use rillmoth::{Capture, Contents, House, Outcome, Refusal, Session, Source, SESSION_BYTES, SESSION_WORDS};
+use std::fs::{self, File, OpenOptions};
+use std::io::{self, Read, Seek, Write};
+
+/// Number and places, 0 where nothing was refused.
+fn told<T>(answer: &Result<T, Refusal>) -> [u64; 3] {
+    match answer {
+        Ok(_) => [0; 3],
+        Err(refusal) => refusal.figures(),
+    }
+}
+
+pub fn open(input: &mut Input, output: &mut Output) -> io::Result<()> {
+    let offered = input.offered()?;
+    let word = u64::from_le_bytes([UNTOUCHED; 8]);
+    let mut session = Session::from_parts([word; SESSION_WORDS], [UNTOUCHED; SESSION_BYTES]);
+    let answer = session.reopen(&offered.table(), offered.bounds);
+    // The other way to open a session gives the same one.
+    let fresh = Session::open(&offered.table(), offered.bounds);
+    if fresh != answer.map(|()| session.clone()) {
+        return Err(io::Error::other("Session::open and Session::reopen differ"));
+    }
+    output.numbers(&told(&answer))?;
+    output.session(&session)
+}
+
+pub fn feed(input: &mut Input, output: &mut Output) -> io::Result<()> {
+    let mut session = input.session()?;
+    let event = u8::try_from(input.number()?).map_err(io::Error::other)?;
+    let answer = session.feed(event);
+    output.numbers(&told(&answer))?;
+    output.session(&session)
+}
+
+pub fn run(input: &mut Input, output: &mut Output) -> io::Result<()> {
+    let offered = input.offered()?;
+    let (trace, mut out) = (input.bytes()?, input.untouched()?);
+    let answer = rillmoth::run(&offered.table(), offered.bounds, &trace, &mut out);
+    output.numbers(&told(&answer))?;
+    output.numbers(&[answer.ok().flatten().map_or(0, |place| place + 1)])?;
+    output.bytes(&out)
+}
+
+/// The words that the library told of a file.
+fn counts(contents: &Contents) -> [u64; 8] {
+    let Contents { states, inputs, outputs, bounds, source, rows, events } = *contents;
+    let source = match source {
+        Source::Rows => 0,
+        Source::Standard => 1,
+    };
+    [states, inputs, outputs, bounds.waiting, bounds.losses, source, rows, events].map(|count| count as u64)
+}
+
+pub fn read(input: &mut Input, output: &mut Output) -> io::Result<()> {
+    let (file, mut rows, mut events) = (input.bytes()?, input.untouched()?, input.untouched()?);
+    let answer = rillmoth::read(&file, &mut rows, &mut events);
+    output.numbers(&told(&answer))?;
+    output.numbers(&answer.as_ref().map_or([0; 8], counts))?;
+    output.bytes(&rows)?;
+    output.bytes(&events)
+}
+
+/// The listing goes from one open file to another. Both have no name, and end with the driver.
+pub struct Lister {
+    file: File,
+    text: File,
+}
+
+impl Lister {
+    pub fn new() -> io::Result<Lister> {
+        let nameless = |name: &str| {
+            let path = std::env::temp_dir().join(format!("door-{}-{name}", std::process::id()));
+            let file = OpenOptions::new().read(true).write(true).create_new(true).open(&path)?;
+            fs::remove_file(&path)?;
+            Ok::<File, io::Error>(file)
+        };
+        Ok(Lister { file: nameless("file")?, text: nameless("text")? })
+    }
+
+    pub fn list(&mut self, input: &mut Input, output: &mut Output) -> io::Result<()> {
+        for file in [&mut self.file, &mut self.text] {
+            file.set_len(0)?;
+            file.rewind()?;
+        }
+        self.file.write_all(&input.bytes()?)?;
+        self.file.rewind()?;
+        let outcome = match rillmoth::list(&self.file, &self.text) {
+            Outcome::Consistent => 0,
+            Outcome::Flagged => 1,
+            Outcome::Refused => 2,
+            Outcome::Broken => 3,
+        };
+        let mut text = Vec::new();
+        self.text.rewind()?;
+        self.text.read_to_end(&mut text)?;
+        output.numbers(&[text.len() as u64])?;
+        output.bytes(&text)?;
+        output.numbers(&[outcome])
+    }
+}
+
+pub fn import(input: &mut Input, output: &mut Output) -> io::Result<()> {
+    let (capture, mut events) = (input.bytes()?, input.untouched()?);
+    let answer = rillmoth::import(&capture, &mut events);
+    output.numbers(&told(&answer)[..2])?;
+    output.numbers(&[answer.map_or(0, |count| count as u64)])?;
+    output.bytes(&events)
+}
+
+pub fn hand(input: &mut Input, output: &mut Output) -> io::Result<()> {
+    let bytes = input.bytes()?;
+    let mut capture = Capture::at(&bytes, input.size()?);
+    let answer = capture.hand();
+    let event = answer.ok().flatten();
+    output.numbers(&told(&answer)[..2])?;
+    output.numbers(&[event.is_some().into(), event.unwrap_or(0).into(), capture.place() as u64])
+}
+
+pub fn write(input: &mut Input, output: &mut Output) -> io::Result<()> {
+    let source = if input.number()? == 0 { Source::Rows } else { Source::Standard };
+    let offered = input.offered()?;
+    let (trace, mut out) = (input.bytes()?, input.untouched()?);
+    let answer = rillmoth::write(source, &offered.table(), offered.bounds, &trace, &mut out);
+    output.numbers(&told(&answer))?;
+    output.numbers(&[answer.map_or(0, |length| length as u64)])?;
+    output.bytes(&out)
+}
+
+/// A file is read and written again through `House`.
+pub fn again(input: &mut Input, output: &mut Output) -> io::Result<()> {
+    let (file, mut out) = (input.bytes()?, input.untouched()?);
+    let answer = House::read(&file).and_then(|house| house.write()).and_then(|written| {
+        let needed = written.len();
+        let room = out.get_mut(..needed).ok_or(Refusal::ShortBuffer { needed: needed as u64 })?;
+        room.copy_from_slice(&written);
+        Ok(needed)
+    });
+    output.numbers(&told(&answer))?;
+    output.numbers(&[answer.map_or(0, |length| length as u64)])?;
+    output.bytes(&out)
+}
