@@ -1,5 +1,5 @@
-// Serves requests for the functions of the crates `doors`, `capturedoors` and `writerdoors`, so that a program in another language can
-// try them: requests on standard input, answers on standard output, until the input ends.
+// Serves requests for the functions of the library, so that a program in another language can try them: requests on standard input,
+// answers on standard output, until the input ends.
 //
 // All numbers are 8 bytes, unsigned, least byte first. A request is its number and then:
 //   1 open   states inputs outputs waiting losses rows_len, rows
@@ -20,10 +20,12 @@
 //            answer: 4 results, out_len bytes
 //   9 again  file_len, file, out_len: the file is read, and where it is good, what was read is written
 //            answer: 4 results, out_len bytes; where the file is refused the first 3 are the reader's, and the last is 0
+//  10 standard out_len
+//            answer: 1 or 0, as the function answers true or false, out_len bytes
 // Memory that a function is to write to holds the byte 0xAA throughout before, so that what was left alone can be told.
 //
 // Input that ends inside a request ends the program with status 1; a request that is none of these, a length above 64 MiB, memory that
-// is refused, or an answer of false, with status 2.
+// is refused, or an answer of false to another request than 10, with status 2.
 //
 // The C library is declared here and not by its headers, so that the kit's compiler needs nothing else to build this.
 
@@ -54,6 +56,7 @@ _Bool rillmoth_import(const u8 *capture, size_t capture_len, u8 *events, size_t 
 _Bool rillmoth_hand(const u8 *capture, size_t capture_len, size_t place, u64 *told, size_t told_len);
 _Bool rillmoth_write(size_t source, const u8 *rows, size_t rows_len, size_t states, size_t inputs, size_t outputs, size_t waiting,
                      size_t losses, const u8 *trace, size_t trace_len, u8 *out, size_t out_len, u64 *told, size_t told_len);
+_Bool rillmoth_standard(u8 *rows, size_t rows_len);
 
 enum { WORDS = 267, BYTES = 2085, TEST_RESULTS = 3, RUN_RESULTS = 4, READ_RESULTS = 11 };
 enum { IMPORT_RESULTS = 3, HAND_RESULTS = 5, WRITE_RESULTS = 4, UNTOUCHED = 0xAA };
@@ -281,6 +284,14 @@ static void again(void) {
     free(file.at), free(out.at), free(rows.at), free(events.at);
 }
 
+static void standard(void) {
+    struct bytes out = untouched(number());
+    u64 given = rillmoth_standard(out.at, out.count);
+    give(&given, sizeof given);
+    give(out.at, out.count);
+    free(out.at);
+}
+
 int main(void) {
     while (input_at < input_end || more()) {
         switch (number()) {
@@ -293,6 +304,7 @@ int main(void) {
             case 7: hand(); break;
             case 8: write_house(); break;
             case 9: again(); break;
+            case 10: standard(); break;
             default: end(BAD_REQUEST);
         }
     }

@@ -25,6 +25,7 @@ fn serve() -> io::Result<()> {
             7 => requests::hand(&mut input, &mut output)?,
             8 => requests::write(&mut input, &mut output)?,
             9 => requests::again(&mut input, &mut output)?,
+            10 => requests::standard(&mut input, &mut output)?,
             _ => return Err(io::Error::new(io::ErrorKind::InvalidData, format!("request {request}"))),
         }
         output.flush()?;

@@ -142,3 +142,15 @@ pub fn again(input: &mut Input, output: &mut Output) -> io::Result<()> {
     output.numbers(&[answer.map_or(0, |length| length as u64)])?;
     output.bytes(&out)
 }
+
+/// The door lends memory that the rows fill, and so never too little.
+pub fn standard(input: &mut Input, output: &mut Output) -> io::Result<()> {
+    let rows = rillmoth::standard_rows();
+    let mut out = input.untouched()?;
+    let room = out.get_mut(..rows.len());
+    output.numbers(&[room.is_some().into()])?;
+    if let Some(room) = room {
+        room.copy_from_slice(&rows);
+    }
+    output.bytes(&out)
+}

@@ -7,6 +7,7 @@ use crate::listing::{self, Listed};
 use crate::refusal::{Offered, Refusal};
 use crate::run::{self, Ran};
 use crate::session::{self, Session};
+use crate::standard::{self, Given};
 use crate::writer::{self, Wanted, Written};
 use crate::wrong::Wrong;
 
@@ -21,6 +22,7 @@ pub enum Case {
     Hand { capture: Made, place: u64 },
     Write { wanted: Wanted, room: usize },
     Again { file: Vec<u8>, room: usize },
+    Standard { room: usize },
 }
 
 #[derive(Clone, Debug, PartialEq)]
@@ -32,6 +34,7 @@ pub enum Answer {
     Import(Imported),
     Hand([u64; 5]),
     Write(Written),
+    Standard(Given),
 }
 
 /// The functions, in the order in which the driver numbers them, each with the refusal numbers that
@@ -46,6 +49,7 @@ pub const FUNCTIONS: &[(&str, &[u64])] = &[
     ("hand", &[7, 9, 15, 16]),
     ("write", &[1, 2, 3, 4, 5, 6, 7, 9, 10, 14]),
     ("again", &[1, 2, 3, 4, 5, 6, 7, 12, 14, 20, 21, 22, 23]),
+    ("standard", &[]),
 ];
 
 fn told(refusal: Option<Refusal>) -> [u64; 3] {
@@ -65,6 +69,7 @@ impl Case {
             Case::Hand { .. } => 6,
             Case::Write { .. } => 7,
             Case::Again { .. } => 8,
+            Case::Standard { .. } => 9,
         }
     }
 
@@ -86,6 +91,7 @@ impl Case {
             Case::Hand { capture, place } => Answer::Hand(capture::hand(&capture.bytes(), *place, wrong)),
             Case::Write { wanted, room } => Answer::Write(writer::write(wanted, *room, wrong)),
             Case::Again { file, room } => Answer::Write(writer::again(file, *room, wrong)),
+            Case::Standard { room } => Answer::Standard(standard::give(*room, wrong)),
         }
     }
 }
@@ -96,7 +102,7 @@ impl Answer {
         match self {
             Answer::Session { session, .. } => session.flag.is_some(),
             Answer::Run(ran) => ran.told[3] > 0,
-            Answer::Read(_) | Answer::Import(_) | Answer::Hand(_) | Answer::Write(_) => false,
+            Answer::Read(_) | Answer::Import(_) | Answer::Hand(_) | Answer::Write(_) | Answer::Standard(_) => false,
             Answer::List(listed) => listed.outcome == listing::FLAGGED,
         }
     }
@@ -110,6 +116,7 @@ impl Answer {
             Answer::Import(imported) => imported.told[0],
             Answer::Hand(told) => told[0],
             Answer::Write(written) => written.told[0],
+            Answer::Standard(_) => 0,
             Answer::List(listed) => {
                 let mut words = listed.text.split_whitespace();
                 match (words.next(), words.next()) {

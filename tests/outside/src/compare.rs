@@ -6,7 +6,8 @@ use crate::driver::{Driver, Lost};
 use crate::report;
 use crate::wrong::{self, Wrong};
 use std::collections::{BTreeSet, VecDeque};
-use std::sync::Arc;
+use std::sync::{Arc, Mutex};
+use std::thread;
 use std::time::Duration;
 
 /// A driver that is lost so often is not started again.
@@ -171,11 +172,30 @@ fn started(start: &Start, tally: &mut Tally) -> Option<Driver> {
 /// How many of a function's cases tell a wrong monitor apart, function by function.
 pub type Counts = [usize; FUNCTIONS.len()];
 
-/// The counts of each wrong monitor, in the order of wrong::ALL; and how many cases there were.
-pub fn told_apart(batches: &mut dyn Iterator<Item = Vec<Case>>) -> (Vec<Counts>, usize) {
+/// The counts of each wrong monitor, in the order of wrong::ALL; and how many cases there were. Every processor takes the next batch.
+pub fn told_apart(batches: &mut (dyn Iterator<Item = Vec<Case>> + Send)) -> (Vec<Counts>, usize) {
+    let left = Mutex::new(batches);
+    let workers = thread::available_parallelism().map_or(1, |count| count.get());
     let mut counts = vec![[0; FUNCTIONS.len()]; wrong::ALL.len()];
     let mut all = 0;
-    for cases in batches {
+    thread::scope(|scope| {
+        let parts: Vec<_> = (0..workers).map(|_| scope.spawn(|| told_apart_of(&left))).collect();
+        for part in parts {
+            let (some, of) = part.join().expect("no wrong monitor ends the program");
+            all += of;
+            for (sum, more) in counts.iter_mut().flatten().zip(some.iter().flatten()) {
+                *sum += more;
+            }
+        }
+    });
+    (counts, all)
+}
+
+/// The same of the batches that this worker is the first to take.
+fn told_apart_of(left: &Mutex<&mut (dyn Iterator<Item = Vec<Case>> + Send)>) -> (Vec<Counts>, usize) {
+    let mut counts = vec![[0; FUNCTIONS.len()]; wrong::ALL.len()];
+    let mut all = 0;
+    while let Some(cases) = next(left) {
         all += cases.len();
         let right: Vec<Answer> = cases.iter().map(|case| case.answer(Wrong::Nothing)).collect();
         for (counts, (wrong, _, _)) in counts.iter_mut().zip(wrong::ALL) {
@@ -187,4 +207,8 @@ pub fn told_apart(batches: &mut dyn Iterator<Item = Vec<Case>>) -> (Vec<Counts>,
         }
     }
     (counts, all)
+}
+
+fn next(left: &Mutex<&mut (dyn Iterator<Item = Vec<Case>> + Send)>) -> Option<Vec<Case>> {
+    left.lock().expect("no worker ends while it takes a batch").next()
 }

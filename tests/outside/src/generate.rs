@@ -3,7 +3,7 @@
 
 use crate::case::Case;
 use crate::random::Random;
-use crate::{captures, file_edges, files, run_edges, runs, session_edges, sessions, writes};
+use crate::{captures, file_edges, files, run_edges, runs, session_edges, sessions, standard, writes};
 
 pub const BATCH: usize = 1000;
 
@@ -39,6 +39,7 @@ pub fn edges() -> Vec<Case> {
     cases.extend(file_edges::edges());
     cases.extend(captures::edges());
     cases.extend(writes::edges());
+    cases.extend(standard::edges());
     cases
 }
 

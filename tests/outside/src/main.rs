@@ -114,7 +114,7 @@ fn asked(arguments: &[String]) -> Option<Asked> {
 }
 
 /// The edges in batches, then the random batches, then the full run if it is wanted.
-fn batches(edges: &[Case], seed: u64, random: u64, full: bool) -> impl Iterator<Item = Vec<Case>> + '_ {
+fn batches(edges: &[Case], seed: u64, random: u64, full: bool) -> impl Iterator<Item = Vec<Case>> + Send + '_ {
     let last = if full { vec![vec![run_edges::full_run()]] } else { Vec::new() };
     let systematic = edges.chunks(generate::BATCH).map(|cases| cases.to_vec());
     systematic.chain((0..random).map(move |number| generate::batch(seed, number))).chain(last)
@@ -184,11 +184,11 @@ fn compared(tally: &Tally, passed: &mut usize, failed: &mut usize) {
 /// Tells how many cases told each wrong monitor apart; at least one must.
 fn apart(counts: &[Counts], of: usize, passed: &mut usize, failed: &mut usize) {
     println!("wrong monitors, and how many of {of} cases tell them apart:");
-    let names: String = FUNCTIONS.iter().map(|(name, _)| format!("{name:>7}")).collect();
+    let names: String = FUNCTIONS.iter().map(|(name, _)| format!("{name:>9}")).collect();
     println!("   all{names}");
     for (counts, (_, name, does)) in counts.iter().zip(wrong::ALL) {
         let all: usize = counts.iter().sum();
-        let each: String = counts.iter().map(|count| format!("{count:7}")).collect();
+        let each: String = counts.iter().map(|count| format!("{count:9}")).collect();
         println!("{all:6}{each}  {name}: {does}");
         if all > 0 {
             *passed += 1;

@@ -65,6 +65,7 @@ pub fn case(case: &Case) -> String {
             format!("write source {source} {} trace ({}) {} room {room}", offered(given), trace.len(), bytes(trace))
         }
         Case::Again { file, room } => format!("again room {room} file ({}) {}", file.len(), bytes(file)),
+        Case::Standard { room } => format!("standard room {room}"),
     }
 }
 
@@ -94,6 +95,9 @@ pub fn difference(right: &Answer, came: &Answer) -> String {
         }
         (Answer::Write(right), Answer::Write(came)) => {
             format!("told {:?} and not {:?}{}", right.told, came.told, buffers("file", &right.out, &came.out))
+        }
+        (Answer::Standard(right), Answer::Standard(came)) => {
+            format!("told {:?} and not {:?}{}", right.told, came.told, buffers("rows", &right.rows, &came.rows))
         }
         (Answer::Hand(right), Answer::Hand(came)) => format!("told {right:?} and not {came:?}"),
         _ => String::from("an answer of another kind"),

@@ -1,11 +1,43 @@
 //! The standard box, worked out from its rule: no entry is written down here.
 
+use crate::case::Case;
 use crate::model::NOT_ALLOWED;
+use crate::run::UNTOUCHED;
 use crate::wrong::Wrong;
 
 pub const STATES: usize = 64;
 pub const INPUTS: usize = 16;
 pub const OUTPUTS: usize = 16;
+
+/// The answer of the function that gives the rows: 1 where they fit, else 0; and the whole buffer.
+#[derive(Clone, Debug, PartialEq)]
+pub struct Given {
+    pub told: [u64; 1],
+    pub rows: Vec<u8>,
+}
+
+/// Gives the rows, into a buffer of `room` bytes.
+pub fn give(room: usize, wrong: Wrong) -> Given {
+    let rows = rows_as(wrong);
+    let mut out = vec![UNTOUCHED; room];
+    if room < rows.len() {
+        if wrong == Wrong::WritesWhenRefused {
+            out.copy_from_slice(&rows[..room]);
+        }
+        return Given { told: [0], rows: out };
+    }
+    out[..rows.len()].copy_from_slice(&rows);
+    if wrong == Wrong::ClearsRest {
+        out[rows.len()..].fill(0);
+    }
+    Given { told: [1], rows: out }
+}
+
+/// Buffers of every length around that of the rows, and some far from it.
+pub fn edges() -> Vec<Case> {
+    let near = 2040..2056;
+    near.chain([0, 1, 32, 1024, 4096]).map(|room| Case::Standard { room }).collect()
+}
 
 pub fn rows() -> Vec<u8> {
     rows_as(Wrong::Nothing)

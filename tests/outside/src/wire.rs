@@ -8,6 +8,7 @@ use crate::listing::Listed;
 use crate::refusal::Offered;
 use crate::run::Ran;
 use crate::session::{Session, BYTES, WORDS};
+use crate::standard::Given;
 use crate::writer::{Wanted, Written};
 use crate::wrong::Wrong;
 use std::io::{self, Read, Write};
@@ -77,6 +78,7 @@ pub fn request(case: &Case) -> Vec<u8> {
             put_counted(&mut bytes, file);
             put(&mut bytes, *room as u64);
         }
+        Case::Standard { room } => put(&mut bytes, *room as u64),
     }
     bytes
 }
@@ -142,6 +144,7 @@ pub fn get_answer(case: &Case, from: &mut dyn Read) -> io::Result<Answer> {
         Case::Write { room, .. } | Case::Again { room, .. } => {
             Answer::Write(Written { told: get_told(from)?, out: get_bytes(from, *room)? })
         }
+        Case::Standard { room } => Answer::Standard(Given { told: get_told(from)?, rows: get_bytes(from, *room)? }),
     })
 }
 
@@ -175,6 +178,7 @@ fn get_case(operation: u64, from: &mut dyn Read) -> io::Result<Case> {
             Case::Write { wanted, room: get(from)? as usize }
         }
         9 => Case::Again { file: get_counted(from)?, room: get(from)? as usize },
+        10 => Case::Standard { room: get(from)? as usize },
         _ => return Err(io::Error::new(io::ErrorKind::InvalidData, format!("operation {operation}"))),
     })
 }
@@ -189,6 +193,7 @@ fn reply(answer: &Answer) -> Vec<u8> {
         Answer::Import(imported) => &imported.told,
         Answer::Hand(told) => told,
         Answer::Write(written) => &written.told,
+        Answer::Standard(given) => &given.told,
     };
     for number in told {
         put(&mut bytes, *number);
@@ -207,6 +212,7 @@ fn reply(answer: &Answer) -> Vec<u8> {
         Answer::Import(imported) => bytes.extend(&imported.events),
         Answer::Hand(_) => {}
         Answer::Write(written) => bytes.extend(&written.out),
+        Answer::Standard(given) => bytes.extend(&given.rows),
     }
     bytes
 }
