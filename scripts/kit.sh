@@ -18,10 +18,27 @@ kit_find() {
   fi
 }
 
-# Proves and compiles the program NAME, unless it is newer than everything that it is made of.
+# Prints a sum over these files and folders of the repository. Times would not do to tell what has changed: those of a fresh copy only say
+# when it was copied.
+kit_sum() { # PATH...
+  (cd "$kit_root" && find "$@" -type f -print0 | LC_ALL=C sort -z | xargs -0 sha256sum | sha256sum)
+}
+
+# Notes that FILE was made of what has this sum. Its own sum stands beside it, since others may make the file anew.
+kit_note() { # FILE SUM
+  { echo "$2" && sha256sum <"$1"; } >"$1.sum"
+}
+
+# Whether FILE is there, and was made of what has this sum.
+kit_made_of() { # FILE SUM
+  [ -e "$1" ] && { echo "$2" && sha256sum <"$1"; } | cmp -s - "$1.sum"
+}
+
+# Proves and compiles the program NAME, unless it was made of what stands here.
 kit_build() { # NAME
-  local program=$kit_root/target/bin/$1 log
-  if [ -x "$program" ] && [ -z "$(find "$kit_root/crates" "$kit_root/crates.txt" -newer "$program" -type f -print -quit)" ]; then
+  local program=$kit_root/target/bin/$1 log sum
+  sum=$(kit_sum crates crates.txt) || return 1
+  if kit_made_of "$program" "$sum"; then
     return 0
   fi
   echo "Proving and compiling the program $1: this is done once, and takes some minutes." >&2
@@ -33,8 +50,7 @@ kit_build() { # NAME
     return 1
   fi
   rm -f "$log"
-  # Where only times changed, it is left as it was, and would be taken for old again.
-  touch "$program"
+  kit_note "$program" "$sum"
 }
 
 # Runs the program NAME with these words.

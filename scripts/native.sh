@@ -36,7 +36,7 @@ native_farm() { # KIT FARM KEPT
 # Prints what the crate NAME is made of: the code, definitions and proofs of it and of all that it stands on here, and crates.txt.
 native_sources() { # NAME
   local crate
-  echo "$native_root/crates.txt"
+  echo crates.txt
   for crate in $(awk -v name="$1" '
     function reach(crate,    below, count, i) {
       if (crate in reached) return
@@ -48,35 +48,38 @@ native_sources() { # NAME
     /^[a-z]+:/ { crate = $1; sub(/:$/, "", crate); $1 = ""; on[crate] = $0 }
     END { reach(name) }' "$native_root/crates.txt"); do
     # The kit's own crates are not here.
-    [ ! -d "$native_root/crates/$crate" ] || printf '%s\n' "$native_root/crates/$crate"/{src,specs,proofs}
+    [ ! -d "$native_root/crates/$crate" ] || printf '%s\n' crates/"$crate"/{src,specs,proofs}
   done
 }
 
-# Whether the file LIBRARY is there, and nothing that the crate NAME is made of is newer.
-native_fresh() { # LIBRARY NAME
+# Prints a sum over all that.
+native_sum() { # NAME
   local sources
-  mapfile -t sources < <(native_sources "$2")
-  [ -e "$1" ] && [ -z "$(find "${sources[@]}" -newer "$1" -type f -print -quit)" ]
+  mapfile -t sources < <(native_sources "$1")
+  kit_sum "${sources[@]}"
 }
 
 # Prints the path of the archive with the functions of the crate NAME that is delivered, for x86-64.
-# It is made anew only where something that it is made of is newer.
+# It is made anew only where something that it is made of has changed.
 delivered_library() { # NAME
-  local name=$1 library=$native_root/target/staticlib/lib$1.a log=$native_root/target/native/$1.log
-  if ! native_fresh "$library" "$name"; then
+  local name=$1 library=$native_root/target/staticlib/lib$1.a log=$native_root/target/native/$1.log sum
+  sum=$(native_sum "$name") || return 1
+  if ! kit_made_of "$library" "$sum"; then
     echo "Proving and compiling the crate $name: this is done once, and takes some minutes." >&2
     mkdir -p "$native_root/target/native"
     (cd "$native_root" && rt staticlib "$name") >"$log" 2>&1 || { tail -n 20 "$log" >&2; return 1; }
+    kit_note "$library" "$sum"
   fi
   echo "$library"
 }
 
 # Prints the path of the module that the kit hands to its compiler for the crate NAME.
-# It is made anew only where something that it is made of is newer.
+# It is made anew only where something that it is made of has changed.
 native_module() { # NAME
-  local name=$1 built=$native_root/target/native kit log module
+  local name=$1 built=$native_root/target/native kit log module sum
   module=$built/$name.bc log=$built/$name.log
-  if native_fresh "$module" "$name"; then
+  sum=$(native_sum "$name") || return 1
+  if kit_made_of "$module" "$sum"; then
     echo "$module"
     return 0
   fi
@@ -92,6 +95,7 @@ native_module() { # NAME
     echo "The kit compiled no module for the crate $name." >&2
     return 1
   fi
+  kit_note "$module" "$sum"
   echo "$module"
 }
 
@@ -103,16 +107,18 @@ native_compile() { # MODULE OBJECT
 }
 
 # Prints the path of an archive or object with the functions of the crate NAME, for this machine, to link with the C library.
-# It is made anew only where something that it is made of is newer.
+# It is made anew only where something that it is made of has changed.
 native_library() { # NAME
-  local name=$1 module library=$native_root/target/native/$1.o
+  local name=$1 module library=$native_root/target/native/$1.o sum
   kit_find || return 1
   if [ "$(uname -m)" = x86_64 ]; then
     delivered_library "$name"
     return
   fi
-  if ! native_fresh "$library" "$name"; then
+  sum=$(native_sum "$name") || return 1
+  if ! kit_made_of "$library" "$sum"; then
     module=$(native_module "$name") && native_compile "$module" "$library" || return 1
+    kit_note "$library" "$sum"
   fi
   echo "$library"
 }
