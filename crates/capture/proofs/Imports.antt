@@ -9,7 +9,8 @@ use Rattle.model.specs.Limits.{most-events}
 use Rattle.table.proofs.Checks.{clash}
 use Rattle.capture.specs.Capture.{headed, records, right-at, layout-at, GoodCapture}
 use Rattle.capture.specs.Refusals.{is-good}
-use Rattle.capture.specs.Importing.{must, right-records, layout-records, front, verdict, imported, after}
+use Rattle.lent.specs.Lent.{front}
+use Rattle.capture.specs.Importing.{must, right-records, layout-records, verdict, imported, after}
 use Rattle.capture.specs.declared.answer.Refusal.{Refusal}
 use Rattle.capture.specs.declared.answer.Imported.{Imported}
 use Rattle.capture.specs.declared.answer.Imported.the-variants.{Good, Refused}

@@ -10,7 +10,7 @@ use lib.ListN.{length, take, drop, getD, set, length-append, length-take, length
 use lib.Seq.{take-all, take-nil, drop-length, drop-nil, drop-drop, drop-cons, append-snoc, set-append-seam, getD-append-add}
 use Rattle.capture.specs.Limits.{header-size, record-size}
 use Rattle.capture.specs.Capture.{big, record-at, records, right, right-at, octet, octet-at, of-layout, layout-at, octets}
-use Rattle.capture.specs.Importing.{front}
+use Rattle.lent.specs.Lent.{front}
 
 -- WHICH PART OF IT EACH IS
 

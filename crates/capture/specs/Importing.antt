@@ -1,11 +1,12 @@
 -- Request L1: what a whole import answers, and what it leaves in the buffer. Assumes nothing.
 use mathlib.Core.Path.{_≡_}
 use mathlib.Core.Bool.{Bool, true, false, not}
-use mathlib.Core.List.{List, _++_}
+use mathlib.Core.List.{List}
 use mathlib.Core.Option.{Option, some, none}
 use Prim.Native.Nat.{ℕ}
 use lib.Dec.{eqb, leb}
-use lib.ListN.{length, drop}
+use lib.ListN.{length}
+use Rattle.lent.specs.Lent.{front}
 use Rattle.model.specs.Limits.{most-events}
 use Rattle.table.specs.First.{first}
 use Rattle.capture.specs.Capture.{headed, records, right-at, layout-at, events-of}
@@ -44,10 +45,6 @@ verdict head n right layout room =
 
 unfoldable pub imported : List ℕ → ℕ → Imported
 imported s room = verdict (headed s) (records s) (right-records s) (layout-records s) room
-
--- The bytes p at the start of d; later bytes keep their values.
-abbrev pub front : List ℕ → List ℕ → List ℕ
-front d p = p ++ drop (length p) d
 
 -- A whole import writes one byte a record and keeps later bytes; a refused one writes nothing.
 abbrev pub after : Imported → List ℕ → List ℕ → List ℕ

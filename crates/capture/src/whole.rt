@@ -2,8 +2,9 @@
 ghost use mathlib.Core.Path.{_≡_};
 ghost use Prim.Native.Nat.{_≤_};
 ghost use lib.ListN.{length};
+ghost use Rattle.lent.specs.Lent.{front};
 ghost use Rattle.capture.specs.Capture.{records, events-of};
-ghost use Rattle.capture.specs.Importing.{right-records, layout-records, front, verdict, imported};
+ghost use Rattle.capture.specs.Importing.{right-records, layout-records, verdict, imported};
 use super::answer::Imported;
 use super::answer::MOST_EVENTS;
 use super::answer::Refusal;

@@ -2,7 +2,7 @@
 use mathlib.Core.Path.{_≡_, refl, sym, ap, _∙_}
 use mathlib.Core.Bool.{Bool, true, false}
 use Rattle.table.proofs.Checks.{clash}
-use Rattle.capture.specs.Importing.{front}
+use Rattle.lent.specs.Lent.{front}
 use Rattle.capture.specs.declared.answer.Imported.{Imported}
 use Rattle.capture.proofs.Laws.{one-import}
 use Rattle.capturedoors.specs.Results.{import-results}

@@ -6,7 +6,8 @@ use mathlib.Core.List.{List, [], _∷_}
 use Prim.Native.Nat.{ℕ}
 use lib.Dec.{leb}
 use lib.ListN.{length}
-use Rattle.capture.specs.Importing.{front, Imports}
+use Rattle.lent.specs.Lent.{front}
+use Rattle.capture.specs.Importing.{Imports}
 use Rattle.capture.specs.Reading.{handed-at}
 use Rattle.capture.specs.Refusals.{told-imported, count-imported, told-taken, event-taken}
 use Rattle.capture.specs.declared.answer.Handed.{Handed}

@@ -3,9 +3,6 @@
 // another. Nothing else is asked: every function answers every input. It answers false exactly when the memory lent for its results is too
 // short, and then nothing is written; a refusal is an answer of true, with its number in the results.
 ghost use mathlib.Core.Path.{_≡_};
-ghost use Prim.Native.Nat.{_≤_};
-ghost use lib.ListN.{length};
-ghost use Rattle.capture.specs.Importing.{front};
 ghost use Rattle.capture.specs.Refusals.{told-imported, count-imported, told-taken, event-taken};
 ghost use Rattle.table.specs.Refusals.{told-at};
 ghost use Rattle.capturedoors.specs.Results.{event-told, import-results, hand-results, Importing, Handing};
@@ -104,18 +101,6 @@ fn of_hand(handed: Handed) -> [u64; 5]
     ]
 }
 
-// Copies src to the start of dst; the rest of dst stays.
-fn put(src: &[u64], dst: &mut [u64])
-    requires { ⌜ length (now src) ≤ length (now dst) ⌝ }
-    ensures { λ _. ⌜ now (dst .exit) ≡ front (now (dst .entry)) (now (src .entry)) ⌝ }
-{
-    let mut i: usize = 0;
-    while i < src.len() {
-        dst[i] = src[i];
-        i += 1;
-    }
-}
-
 // Imports a capture: one byte a record, to the start of the buffer. The results are number and place, and how many events were written.
 #[no_mangle]
 pub extern "C" fn rillmoth_import(capture: &[u8], events: &mut [u8], told: &mut [u64]) -> bool
@@ -125,7 +110,7 @@ pub extern "C" fn rillmoth_import(capture: &[u8], events: &mut [u8], told: &mut 
         return false;
     }
     let imported = capture::import(capture, &mut *events);
-    put(&of_import(imported), &mut *told);
+    lent::put_words(&of_import(imported), &mut *told, 0);
     true
 }
 
@@ -138,6 +123,6 @@ pub extern "C" fn rillmoth_hand(capture: &[u8], place: usize, told: &mut [u64]) 
     if told.len() < HAND {
         return false;
     }
-    put(&of_hand(reader::hand(capture, place)), &mut *told);
+    lent::put_words(&of_hand(reader::hand(capture, place)), &mut *told, 0);
     true
 }

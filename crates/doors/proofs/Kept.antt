@@ -9,7 +9,8 @@ use Rattle.monitor.specs.declared.session.Session.{Session}
 use Rattle.monitor.specs.declared.feed.Fed.{Fed}
 use Rattle.monitor.specs.Feed as feed
 use Rattle.monitor.specs.Feed.{Feeds}
-use Rattle.house.specs.File.{front}
+use Rattle.lent.specs.Lent.{front, put-at}
+use Rattle.lent.proofs.Laws.{put-at-fits}
 use Rattle.doors.specs.Layout.{session-bytes, bytes-of, session-in}
 use Rattle.doors.proofs.Lies.{counts}
 
@@ -52,6 +53,7 @@ middle b h k n =
 
 -- the bytes of a session, with the held inputs of one that is alike
 pub held-put : (w b x : List ℕ) (t : Session) → session-bytes ≤ length b → length (t .held) ≡ 32 → Alike (session-in w b) t
-    → x ≡ paste b 2048 (t .held) (length (t .held)) → x ≡ front b (bytes-of t)
+    → x ≡ put-at b 2048 (t .held) → x ≡ front b (bytes-of t)
 unfolding bytes-of session-in
-held-put w b x t k n a e = e ∙ rw (a .rows, a .states, a .inputs, a .outputs, a .waiting, a .losses) (middle b (t .held) k n)
+held-put w b x t k n a e =
+    e ∙ put-at-fits b 2048 (t .held) (omega arith) ∙ rw (a .rows, a .states, a .inputs, a .outputs, a .waiting, a .losses) (middle b (t .held) k n)

@@ -6,14 +6,14 @@ use native.Mathlib.Numerals.{add-one}
 use native.Mathlib.Omega.{arith}
 use lib.ListN.{length, take, drop, length-append, length-drop}
 use native.Mathlib.Nat.{le-refl}
-use lib.Seq.{paste, take-take, length-take-le}
+use lib.Seq.{take-take, length-take-le}
 use Rattle.monitor.specs.Laws.{Proper}
 use Rattle.monitor.specs.declared.session.Session.{Session}
 use Rattle.monitor.specs.declared.session.Flag.{Flag}
 use Rattle.monitor.specs.declared.session.Flag.the-variants as flag
 use Rattle.doors.specs.Layout.{session-words, session-bytes, flag-word, flag-in, words-of, bytes-of, session-in}
-use Rattle.house.specs.File.{front}
-use Rattle.doors.proofs.Copies.{paste-front, front-more}
+use Rattle.lent.specs.Lent.{front, put-at}
+use Rattle.lent.proofs.Laws.{put-fits, front-more}
 
 -- FLAGS
 
@@ -60,21 +60,21 @@ proper-in w b h k =
 -- WRITING
 
 -- the set, and then what was seen
-pub words-put : (d x y : List ℕ) (s : Session) (f : ℕ) → length (s .set) ≡ 264 → f ≡ flag-word (s .flag)
-    → x ≡ paste d 0 (s .set) (length (s .set)) → y ≡ paste x 264 (s .events ∷ s .arrived ∷ f ∷ []) 3 → y ≡ front d (words-of s)
+pub words-put : (d x y : List ℕ) (s : Session) (f : ℕ) → session-words ≤ length d → length (s .set) ≡ 264 → f ≡ flag-word (s .flag)
+    → x ≡ put-at d 0 (s .set) → y ≡ put-at x 264 (s .events ∷ s .arrived ∷ f ∷ []) → y ≡ front d (words-of s)
 unfolding words-of
-words-put d x y s f n e p q =
-    q
-    ∙ rw (p, paste-front d (s .set), e)
-    (front-more d (s .set) (s .events ∷ s .arrived ∷ flag-word (s .flag) ∷ []) 264 (sym n))
+words-put d x y s f l n e p q =
+    let one : x ≡ front d (s .set) = p ∙ put-fits d (s .set) (omega arith) in
+    q ∙ rw (one, e) (front-more d (s .set) (s .events ∷ s .arrived ∷ flag-word (s .flag) ∷ []) 264 (sym n) (omega arith))
 
 -- the rows, then the held inputs, then the counts and bounds
-pub bytes-put : (d x y z : List ℕ) (s : Session) → length (s .rows) ≡ 2048 → length (s .held) ≡ 32
-    → x ≡ paste d 0 (s .rows) (length (s .rows)) → y ≡ paste x 2048 (s .held) (length (s .held))
-    → z ≡ paste y 2080 (s .states ∷ s .inputs ∷ s .outputs ∷ s .waiting ∷ s .losses ∷ []) 5 → z ≡ front d (bytes-of s)
+pub bytes-put : (d x y z : List ℕ) (s : Session) → session-bytes ≤ length d → length (s .rows) ≡ 2048 → length (s .held) ≡ 32
+    → x ≡ put-at d 0 (s .rows) → y ≡ put-at x 2048 (s .held)
+    → z ≡ put-at y 2080 (s .states ∷ s .inputs ∷ s .outputs ∷ s .waiting ∷ s .losses ∷ []) → z ≡ front d (bytes-of s)
 unfolding bytes-of
-bytes-put d x y z s n m p q r =
+bytes-put d x y z s l n m p q r =
     let counts = s .states ∷ s .inputs ∷ s .outputs ∷ s .waiting ∷ s .losses ∷ [] in
-    let two : y ≡ front d (s .rows ++ s .held) = q ∙ rw (p, paste-front d (s .rows)) (front-more d (s .rows) (s .held) 2048 (sym n)) in
-    let l : 2080 ≡ length (s .rows ++ s .held) = simp length-append (omega arith) in
-    r ∙ rw two (front-more d (s .rows ++ s .held) counts 2080 l)
+    let one : x ≡ front d (s .rows) = p ∙ put-fits d (s .rows) (omega arith) in
+    let two : y ≡ front d (s .rows ++ s .held) = q ∙ rw one (front-more d (s .rows) (s .held) 2048 (sym n) (omega arith)) in
+    let k : 2080 ≡ length (s .rows ++ s .held) = simp length-append (omega arith) in
+    r ∙ rw two (front-more d (s .rows ++ s .held) counts 2080 k (omega arith))

@@ -6,7 +6,7 @@ use native.Mathlib.Omega.{arith}
 use lib.ListN.{length, getD, take, drop, length-append, take-append-drop}
 use lib.Seq.{take-at, drop-at, getD-append-add, drop-cons, take-add, take-all, length-take-le}
 use Rattle.monitor.specs.declared.session.Session.{Session}
-use Rattle.house.specs.File.{front}
+use Rattle.lent.specs.Lent.{front}
 use Rattle.doors.specs.Layout.{session-words, session-bytes, flag-word, flag-in, words-of, bytes-of, session-in}
 use Rattle.doors.specs.Laws.{Sized, SessionBack, SessionLies, WordsBack, BytesBack, WordsKept, BytesKept}
 use Rattle.doors.proofs.Layouts.{flag-kept, flag-back}

@@ -9,7 +9,7 @@ use Rattle.run.specs.declared.Ran.{Ran}
 use Rattle.monitor.proofs.Laws.{one-feed}
 use Rattle.run.proofs.Laws.{one-run}
 use Rattle.house.specs.declared.answer.Reading.{Reading}
-use Rattle.house.specs.File.{front}
+use Rattle.lent.specs.Lent.{front}
 use Rattle.house.proofs.Laws.{one-reading}
 use Rattle.doors.specs.Layout.{words-of, bytes-of, session-in}
 use Rattle.doors.specs.Results.{test-results, run-results, read-results}

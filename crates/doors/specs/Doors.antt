@@ -13,7 +13,7 @@ use Rattle.monitor.specs.Open.{opened}
 use Rattle.monitor.specs.Feed.{Feeds}
 use Rattle.run.specs.Run.{Runs}
 use Rattle.house.specs.declared.answer.Reading.{Reading}
-use Rattle.house.specs.File.{front}
+use Rattle.lent.specs.Lent.{front}
 use Rattle.house.specs.Reading.{Answers}
 use Rattle.lister.specs.declared.Outcome.{Outcome}
 use Rattle.lister.specs.declared.Outcome.the-variants.{Consistent, Flagged, Refused, Broken}

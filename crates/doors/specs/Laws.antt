@@ -7,7 +7,7 @@ use lib.ListN.{length, getD}
 use Rattle.monitor.specs.declared.session.Session.{Session}
 use Rattle.monitor.specs.Open.{opened}
 use Rattle.monitor.specs.Feed.{FedTo}
-use Rattle.house.specs.File.{front}
+use Rattle.lent.specs.Lent.{front}
 use Rattle.doors.specs.Layout.{session-words, session-bytes, words-of, bytes-of, session-in}
 use Rattle.doors.specs.Doors.{Opens, Feeding, Running, Read}
 

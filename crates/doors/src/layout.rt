@@ -2,10 +2,8 @@
 ghost use mathlib.Core.Path.{_≡_};
 ghost use Prim.Native.Nat.{_^_, _≤_, _<_};
 ghost use lib.ListN.{length, take};
-ghost use lib.Seq.{paste};
-ghost use Rattle.house.specs.File.{front};
+ghost use Rattle.lent.specs.Lent.{front, put-at};
 ghost use Rattle.doors.specs.Layout.{session-words, session-bytes, flag-word, flag-in, words-of, bytes-of, session-in};
-use crate::memory;
 use monitor::session::Flag;
 use monitor::session::Session;
 
@@ -120,8 +118,8 @@ pub(crate) fn put_words(words: &mut [u64], s: Session)
 {
     let flag = s.flag;
     let seen = [s.events as u64, s.arrived as u64, flag_word(flag)];
-    memory::copy_words(&s.set, &mut *words, 0);
-    memory::copy_words(&seen, &mut *words, SEEN);
+    lent::put_words(&s.set, &mut *words, 0);
+    lent::put_words(&seen, &mut *words, SEEN);
 }
 
 // Puts a session's bytes at the start of the memory; the rest of it stays.
@@ -130,16 +128,16 @@ pub(crate) fn put_bytes(bytes: &mut [u8], s: Session)
     ensures { λ _. ⌜ now (bytes .exit) ≡ front (now (bytes .entry)) (bytes-of s) ⌝ }
 {
     let counts = [s.states, s.inputs, s.outputs, s.waiting, s.losses];
-    memory::copy_bytes(&s.rows, &mut *bytes, 0);
-    memory::copy_bytes(&s.held, &mut *bytes, HELD);
-    memory::copy_bytes(&counts, &mut *bytes, COUNTS);
+    lent::put_bytes(&s.rows, &mut *bytes, 0);
+    lent::put_bytes(&s.held, &mut *bytes, HELD);
+    lent::put_bytes(&counts, &mut *bytes, COUNTS);
 }
 
 // Puts held inputs at their place; the rest of the memory stays. Of a session's bytes a feed changes no others: to put them all back would
 // take a second copy of the rows.
 pub(crate) fn put_held(bytes: &mut [u8], held: [u8; 32])
     requires { ⌜ session-bytes ≤ length (now bytes) ⌝ }
-    ensures { λ _. ⌜ now (bytes .exit) ≡ paste (now (bytes .entry)) 2048 held (length held) ⌝ }
+    ensures { λ _. ⌜ now (bytes .exit) ≡ put-at (now (bytes .entry)) 2048 held ⌝ }
 {
-    memory::copy_bytes(&held, &mut *bytes, HELD);
+    lent::put_bytes(&held, &mut *bytes, HELD);
 }

@@ -17,7 +17,6 @@ use monitor::feed;
 use monitor::session;
 
 mod layout;
-mod memory;
 mod results;
 
 // Whether memory of these lengths has room for a session and for the results of opening and feeding.
@@ -56,7 +55,7 @@ pub extern "C" fn rillmoth_open(
     let s = opened.session;
     layout::put_words(&mut *words, s);
     layout::put_bytes(&mut *bytes, s);
-    memory::copy_words(&results::of_test(test), &mut *told, 0);
+    lent::put_words(&results::of_test(test), &mut *told, 0);
     true
 }
 
@@ -79,7 +78,7 @@ pub extern "C" fn rillmoth_feed(
     layout::put_words(&mut *words, s);
     let held = s.held;
     layout::put_held(&mut *bytes, held);
-    memory::copy_words(&results::of_test(test), &mut *told, 0);
+    lent::put_words(&results::of_test(test), &mut *told, 0);
     true
 }
 
@@ -111,7 +110,7 @@ pub extern "C" fn rillmoth_run<'a>(
         trace,
         &mut *out,
     );
-    memory::copy_words(&results::of_run(ran), &mut *told, 0);
+    lent::put_words(&results::of_run(ran), &mut *told, 0);
     true
 }
 
@@ -129,7 +128,7 @@ pub extern "C" fn rillmoth_read(
         return false;
     }
     let reading = house::read(file, &mut *rows, &mut *events);
-    memory::copy_words(&results::of_read(reading), &mut *told, 0);
+    lent::put_words(&results::of_read(reading), &mut *told, 0);
     true
 }
 

@@ -8,6 +8,7 @@ use native.Mathlib.Omega.{arith}
 use lib.Dec.{leb}
 use lib.ListN.{length}
 use borrow.Author.Tests.{leb-true}
+use Rattle.lent.specs.Lent.{front}
 use Rattle.model.specs.Limits.{most-states, most-inputs, most-outputs}
 use Rattle.table.proofs.Checks.{clash}
 use Rattle.table.proofs.Laws.{counts-pass, length-passes}
@@ -16,7 +17,7 @@ use Rattle.table.specs.declared.answer.Refusal.the-variants as told
 use Rattle.table.specs.declared.answer.Test.the-variants as table
 use Rattle.house.specs.Limits.{most-rows}
 use Rattle.house.specs.Verdicts.{must, of-table, is-passed, is-good, then, first-of}
-use Rattle.house.specs.File.{rows-of, events-of, contents-of, front}
+use Rattle.house.specs.File.{rows-of, events-of, contents-of}
 use Rattle.house.specs.Reading.{is-standard, states-held, shape-test, rows-test, limits-test, events-test, held-test, room-test, content-test, form-test, verdict, answer, after}
 use Rattle.house.specs.declared.answer.Contents.{Contents}
 use Rattle.house.specs.declared.answer.Reading.{Reading}

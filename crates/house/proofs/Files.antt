@@ -7,12 +7,13 @@ use native.Mathlib.Nat.{add-zero, add-suc}
 use native.Mathlib.Numerals.{add-one}
 use native.Mathlib.Omega.{arith}
 use lib.ListN.{length, take, drop, getD, length-append, length-take, List·getD-append}
-use lib.Seq.{paste, take-append-seam, take-length, drop-append-add, drop-drop, getD-append-add}
+use lib.Seq.{getD-append-add}
 use lib.Dec.{eqb}
-use borrow.Author.Tests.{le-leb, lt-leb}
+use Rattle.lent.specs.Lent.{front, put, put-at}
+use Rattle.lent.proofs.Laws.{put-fits, front-stands, front-more}
 use Rattle.block.specs.Limits.{block-size, room}
 use Rattle.block.specs.Block.{kind, payload, share}
-use Rattle.house.specs.File.{block-at, blocks, block-before, joined, front, put}
+use Rattle.house.specs.File.{block-at, blocks, block-before, joined}
 
 -- BLOCKS
 
@@ -84,16 +85,6 @@ module _ (q : ℕ) (s : List ℕ) where
 
 -- BUFFERS
 
--- what is pasted after the front makes a longer front
-pub front-more : (d p r : List ℕ) → paste (front d p) (length p) r (length r) ≡ front d (p ++ r)
-front-more d p r = simp (take-append-seam, take-length, drop-append-add, drop-drop, length-append)
-
-pub put-front : (d p : List ℕ) → length p ≤ length d → put d p ≡ front d p
-put-front d p l = simp (le-leb _ _ l)
-
-pub put-none : (d p : List ℕ) → length d < length p → put d p ≡ d
-put-none d p l = simp (lt-leb _ _ l)
-
 -- a part p of the file that is block k's share
 module _ (q : ℕ) (s b p : List ℕ) (k : ℕ) (e : b ≡ block-at s k) (f : p ≡ share q b) where
   pub part-share : p ≡ share q (block-at s k)
@@ -109,10 +100,14 @@ module _ (q : ℕ) (s b p : List ℕ) (k : ℕ) (e : b ≡ block-at s k) (f : p 
   part-fits h = omega (arith, joined-fits q s k (blocks s) h, ap length part-share)
 
   -- it is copied behind what was copied before
-  pub part-put : (d x y : List ℕ) (at : ℕ) → at ≡ length (joined q s k) → x ≡ front d (joined q s k) → y ≡ paste x at p (length p)
-      → y ≡ front d (joined q s (k + 1))
-  part-put d x y at g h i = i ∙ rw (g, h, part-share, joined-more q s k) (front-more d (joined q s k) (share q (block-at s k)))
+  pub part-put : (d x y : List ℕ) (at : ℕ) → at ≡ length (joined q s k) → x ≡ front d (joined q s k) → at + length p ≤ length d
+      → y ≡ put-at x at p → y ≡ front d (joined q s (k + 1))
+  part-put d x y at g h l i =
+      i
+      ∙ ap (λ (z : List ℕ). put-at z at p) h
+      ∙ front-more d (joined q s k) p at g l
+      ∙ ap (front d) (ap (λ (z : List ℕ). joined q s k ++ z) part-share ∙ sym (joined-more q s k))
 
 -- what was put at the start is read back from there
 pub put-back : (p d g : List ℕ) (n : ℕ) → g ≡ put d p → n ≡ length p → length p ≤ length d → take n g ≡ p
-put-back p d g n e f l = rw (e, put-front d p l, f) (take-append-seam p (drop (length p) d))
+put-back p d g n e f l = rw (e, put-fits d p l, f) (front-stands d p .start)

@@ -4,9 +4,10 @@ use mathlib.Core.Path.{_≡_, refl, sym, ap, _∙_}
 use mathlib.Core.List.{List, []}
 use Prim.Native.Nat.{ℕ, _≤_}
 use native.Mathlib.Omega.{arith}
-use lib.ListN.{length, drop}
-use lib.Seq.{take-append-seam, drop-append-seam}
-use Rattle.house.specs.File.{rows-of, events-of, contents-of, front}
+use lib.ListN.{length}
+use Rattle.lent.specs.Lent.{front}
+use Rattle.lent.proofs.Laws.{front-stands}
+use Rattle.house.specs.File.{rows-of, events-of, contents-of}
 use Rattle.table.proofs.Checks.{clash}
 use Rattle.house.specs.Reading.{verdict, after, Answers}
 use Rattle.house.specs.Laws.{FormPasses, BlockTold, NoThirteen, FirstBad, OneReading, NothingWritten, Starts, WhatIsHeld, GoodRows, ContentsPass, RowsFit, ReadExactly, CountsHeld, WhatIsGood, RowsUntouched}
@@ -71,11 +72,7 @@ what-is-good s d e c d′ e′ x =
 
 starts : (d d′ p : List ℕ) (n : ℕ) → n ≡ length p → length p ≤ length d → d′ ≡ front d p → Starts d d′ p n
 starts d d′ p n e l f =
-    record {
-      fits = omega arith;
-      start = rw (e, f) (take-append-seam p (drop (length p) d));
-      later = rw (e, f) (drop-append-seam p (drop (length p) d));
-    }
+    record { fits = omega arith; start = rw (e, f) (front-stands d p .start); later = rw (e, f) (front-stands d p .later) }
 
 pub what-is-held : WhatIsHeld
 unfolding contents-of

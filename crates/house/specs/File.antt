@@ -3,7 +3,7 @@ use mathlib.Core.Path.{_≡_}
 use mathlib.Core.Bool.{cond}
 use mathlib.Core.List.{List, [], _++_}
 use Prim.Native.Nat.{ℕ, zero, suc, _+_, _*_, _/_, _<_}
-use lib.Dec.{eqb, leb}
+use lib.Dec.{eqb}
 use lib.ListN.{length, take, drop}
 use Rattle.model.specs.Limits.{UpTo}
 use Rattle.block.specs.Limits.{block-size, payload-at, row-kind, event-kind}
@@ -63,11 +63,3 @@ contents-of s =
       rows = length (rows-of s);
       events = length (events-of s);
     }
-
--- The bytes p at the start of d; later bytes keep their values.
-abbrev pub front : List ℕ → List ℕ → List ℕ
-front d p = p ++ drop (length p) d
-
--- The same where d has room for them, and else d as it was.
-abbrev pub put : List ℕ → List ℕ → List ℕ
-put d p = cond (leb (length p) (length d)) (front d p) d

@@ -6,6 +6,7 @@ use mathlib.Core.Option.{Option, some, none}
 use Prim.Native.Nat.{ℕ, zero, suc, _%_}
 use lib.Dec.{eqb, leb}
 use lib.ListN.{length}
+use Rattle.lent.specs.Lent.{front}
 use Rattle.table.specs.Bytes.{table-of}
 use Rattle.table.specs.First.{first}
 use Rattle.table.specs.Tests.{counts-test, length-test, entries-test, bounds-test, invalid-at}
@@ -17,7 +18,7 @@ use Rattle.block.specs.Limits.{block-size}
 use Rattle.block.specs.Block.{block-test}
 use Rattle.house.specs.Limits.{most-bytes, most-events, standard-states, standard-inputs, standard-outputs}
 use Rattle.house.specs.Verdicts.{must, of-block, of-table, then, first-of}
-use Rattle.house.specs.File.{block-at, blocks, block-before, rows-of, events-of, contents-of, front}
+use Rattle.house.specs.File.{block-at, blocks, block-before, rows-of, events-of, contents-of}
 use Rattle.house.specs.declared.answer.Refusal.the-variants as refusal
 use Rattle.house.specs.declared.answer.Verdict.{Verdict}
 use Rattle.house.specs.declared.answer.Verdict.the-variants.{Passed, Refused}

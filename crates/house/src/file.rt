@@ -1,9 +1,9 @@
 // A house file block by block: the tests of its blocks, and what they hold.
 ghost use mathlib.Core.Path.{_≡_};
-ghost use Prim.Native.Nat.{_+_, _<_, _≤_};
+ghost use Prim.Native.Nat.{_<_};
 ghost use lib.ListN.{length};
-ghost use lib.Seq.{paste};
-ghost use Rattle.house.specs.File.{block-at, blocks, block-before, joined, events-of, put};
+ghost use Rattle.lent.specs.Lent.{put};
+ghost use Rattle.house.specs.File.{block-at, blocks, block-before, joined, events-of};
 ghost use Rattle.house.specs.Reading.{is-whole, blocks-test, form-test, place-or, valid-events};
 use super::answer::Refusal;
 use super::answer::Verdict;
@@ -91,18 +91,6 @@ pub(crate) fn measure(file: &[u8], q: u8) -> usize
     sum
 }
 
-// Copies src over dst from `to` on; the rest of dst stays.
-fn copy(src: &[u8], dst: &mut [u8], to: usize)
-    requires { ⌜ to + length (now src) ≤ length (now dst) ⌝ }
-    ensures { λ _. ⌜ now (dst .exit) ≡ paste (now (dst .entry)) to (now (src .entry)) (length (now (src .entry))) ⌝ }
-{
-    let mut i = 0;
-    while i < src.len() {
-        dst[to + i] = src[i];
-        i += 1;
-    }
-}
-
 // Puts what the blocks of kind q hold at the start of dst, if it has room for all of it; the rest of dst stays.
 pub(crate) fn gather(file: &[u8], q: u8, dst: &mut [u8])
     ensures { λ _. ⌜ now (dst .exit) ≡ put (now (dst .entry)) (joined q (now (file .entry)) (blocks (now (file .entry)))) ⌝ }
@@ -115,7 +103,7 @@ pub(crate) fn gather(file: &[u8], q: u8, dst: &mut [u8])
     let mut k = 0;
     while k < n {
         let part = block::share(block_at(file, k), q);
-        copy(part, dst, at);
+        lent::put_bytes(part, dst, at);
         at += part.len();
         k += 1;
     }

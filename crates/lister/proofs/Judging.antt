@@ -7,6 +7,7 @@ use native.Mathlib.Omega.{arith}
 use lib.Dec.{leb}
 use lib.ListN.{length, take}
 use borrow.Author.Tests.{leb-false}
+use Rattle.lent.specs.Lent.{front}
 use Rattle.table.specs.declared.answer.Test.{Test}
 use Rattle.run.specs.declared.Ran.{Ran}
 use Rattle.model.specs.Table.{Valid}
@@ -22,7 +23,7 @@ use Rattle.run.specs.Laws.{GoodTrace}
 use Rattle.monitor.proofs.Laws.{opening-passes}
 use Rattle.run.proofs.Laws.{run-passes, room-decides}
 use Rattle.standard.proofs.Laws.{is-valid}
-use Rattle.house.specs.File.{rows-of, events-of, contents-of, front}
+use Rattle.house.specs.File.{rows-of, events-of, contents-of}
 use Rattle.house.specs.Reading.{verdict, answer, after, Answers}
 use Rattle.house.specs.Laws.{GoodRows, GoodFile}
 use Rattle.house.specs.declared.answer.Contents.{Contents}

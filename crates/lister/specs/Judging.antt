@@ -3,6 +3,7 @@ use mathlib.Core.Path.{_≡_}
 use mathlib.Core.List.{List}
 use Prim.Native.Nat.{ℕ, _*_, _≤_, _<_}
 use lib.ListN.{length}
+use Rattle.lent.specs.Lent.{front}
 use Rattle.table.specs.declared.answer.Refusal.the-variants.{Buffer}
 use Rattle.table.specs.declared.answer.Test.{Test}
 use Rattle.table.specs.declared.answer.Test.the-variants as test
@@ -10,7 +11,7 @@ use Rattle.run.specs.Run.{Runs, RunTo}
 use Rattle.run.specs.declared.Ran.{Ran}
 use Rattle.monitor.specs.declared.session.Flag.{Flag}
 use Rattle.standard.specs.Box.{standard-rows}
-use Rattle.house.specs.File.{rows-of, events-of, contents-of, front}
+use Rattle.house.specs.File.{rows-of, events-of, contents-of}
 use Rattle.house.specs.Reading.{verdict}
 use Rattle.house.specs.declared.answer.Contents.{Contents}
 use Rattle.house.specs.declared.answer.Refusal.{Refusal}

@@ -4,7 +4,8 @@ use mathlib.Core.List.{List}
 use Prim.Native.Nat.{ℕ}
 use native.Mathlib.Omega.{arith}
 use lib.ListN.{length, replicate, length-replicate}
-use Rattle.house.specs.File.{rows-of, events-of, contents-of, front}
+use Rattle.lent.specs.Lent.{front}
+use Rattle.house.specs.File.{rows-of, events-of, contents-of}
 use Rattle.house.specs.Laws.{GoodFile}
 use Rattle.house.specs.Reading.{verdict, answer, Answers}
 use Rattle.house.specs.declared.answer.Contents.{Contents}

@@ -1,16 +1,13 @@
 -- What `rillmoth_standard` answers and leaves in the memory lent to it, for every input. Assumes nothing.
 use mathlib.Core.Path.{_≡_}
 use mathlib.Core.Bool.{Bool, true, false}
-use mathlib.Core.List.{List, _++_}
+use mathlib.Core.List.{List}
 use Prim.Native.Nat.{ℕ, _+_, _*_}
 use lib.Dec.{leb}
-use lib.ListN.{length, drop}
+use lib.ListN.{length}
+use Rattle.lent.specs.Lent.{front}
 use Rattle.standard.specs.Rule.{states, inputs, outputs}
 use Rattle.standard.specs.Box.{standard-rows}
-
--- The start of memory d is p; the rest of it stays.
-abbrev pub front : List ℕ → List ℕ → List ℕ
-front d p = p ++ drop (length p) d
 
 -- How many bytes the rows are.
 abbrev pub rows-size : ℕ

@@ -5,8 +5,10 @@ use Prim.Native.Nat.{ℕ, zero, suc, _+_, _*_, _-_, _≤_, _<_}
 use native.Mathlib.Numerals.{add-one}
 use native.Mathlib.Omega.{arith}
 use lib.ListN.{length, take, drop, replicate, length-append, length-drop, length-replicate, replicate-append-replicate, drop-of-length-le, List·getD-append}
-use lib.Seq.{paste, sets, sets-eq, take-length, take-all, take-at, drop-at, drop-drop}
+use lib.Seq.{sets, sets-eq, take-length, take-all, take-at, drop-at, drop-drop}
 use borrow.Rule.Slice.PartMut.{putMid}
+use Rattle.lent.specs.Lent.{put-at}
+use Rattle.lent.proofs.Laws.{put-at-fits}
 use Rattle.block.specs.Limits.{block-size, payload-at, check-at, room, setup-kind, row-kind, event-kind}
 use Rattle.block.specs.Block.{check}
 use Rattle.house.specs.declared.answer.Contents.{Contents}
@@ -28,11 +30,12 @@ tail n h =
 
 -- the payload over zeros
 filled : (q k : ℕ) (p : List ℕ) → length p ≤ room
-    → paste (header q k (length p) ++ replicate (room + 2) 0) payload-at p (length p) ≡ body q k p ++ replicate 2 0
+    → put-at (header q k (length p) ++ replicate (room + 2) 0) payload-at p ≡ body q k p ++ replicate 2 0
 unfolding body
 filled q k p h =
     let head = header q k (length p) in
-    ap (λ (l : List ℕ). head ++ l ++ drop (payload-at + length p) (head ++ replicate (room + 2) 0)) (take-length p)
+    put-at-fits (head ++ replicate (room + 2) 0) payload-at p (simp (length-append, length-replicate) (omega arith))
+    ∙ ap (λ (l : List ℕ). head ++ l ++ drop (payload-at + length p) (head ++ replicate (room + 2) 0)) (take-length p)
     ∙ ap (λ (l : List ℕ). head ++ p ++ l) (sym (drop-drop (length p) payload-at (head ++ replicate (room + 2) 0)) ∙ tail (length p) h)
     ∙ sym (append-assoc (head ++ p) (replicate (room - length p) 0) (replicate 2 0))
 
@@ -52,7 +55,7 @@ checked q k p h =
 
 -- cleared, headed, filled, checked and ended, the bytes are the block
 pub written : (q k n m : ℕ) (p o o₁ o₂ o₃ o₄ : List ℕ) → length o ≡ block-size → length p ≤ room → m ≡ length p
-    → o₁ ≡ replicate (length o) 0 → o₂ ≡ sets o₁ 0 (header q k m) → o₃ ≡ paste o₂ payload-at p (length p)
+    → o₁ ≡ replicate (length o) 0 → o₂ ≡ sets o₁ 0 (header q k m) → o₃ ≡ put-at o₂ payload-at p
     → n ≡ check o₃ → o₄ ≡ sets o₃ check-at (spelling n) → o₄ ≡ block-of q k p
 unfolding block-of
 written q k n m p o o₁ o₂ o₃ o₄ h l e e₁ e₂ e₃ e₄ e₅ =

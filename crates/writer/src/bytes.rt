@@ -1,8 +1,7 @@
-// Bytes of a block: a number as two of them, a buffer cleared, a part copied.
+// Bytes of a block: a number as two of them, a buffer cleared.
 ghost use mathlib.Core.Path.{_≡_};
-ghost use Prim.Native.Nat.{_≤_, _<_, _+_, _%_, _/_};
+ghost use Prim.Native.Nat.{_<_, _%_, _/_};
 ghost use lib.ListN.{length, replicate};
-ghost use lib.Seq.{paste};
 
 // The low byte of a number.
 pub(crate) fn low(n: usize) -> u8
@@ -26,18 +25,6 @@ pub(crate) fn clear(dst: &mut [u8])
     let mut i = 0;
     while i < dst.len() {
         dst[i] = 0;
-        i += 1;
-    }
-}
-
-// Copies src over dst from `to` on; the rest of dst stays.
-pub(crate) fn copy(src: &[u8], dst: &mut [u8], to: usize)
-    requires { ⌜ to + length (now src) ≤ length (now dst) ⌝ }
-    ensures { λ _. ⌜ now (dst .exit) ≡ paste (now (dst .entry)) to (now (src .entry)) (length (now (src .entry))) ⌝ }
-{
-    let mut i = 0;
-    while i < src.len() {
-        dst[to + i] = src[i];
         i += 1;
     }
 }

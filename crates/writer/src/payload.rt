@@ -7,7 +7,6 @@ ghost use Rattle.block.specs.Limits.{block-size, check-at, room};
 ghost use Rattle.writer.specs.Writing.{blocks-for};
 ghost use Rattle.writer.specs.Layout.{spelling, header, block-of, piece, all-of};
 use super::bytes::clear;
-use super::bytes::copy;
 use super::bytes::high;
 use super::bytes::low;
 use block::BLOCK;
@@ -55,7 +54,7 @@ pub(crate) fn put(out: &mut [u8], kind: u8, number: usize, payload: &[u8])
 {
     clear(out);
     put_header(out, kind, number, payload.len());
-    copy(payload, out, PAYLOAD_AT);
+    lent::put_bytes(payload, out, PAYLOAD_AT);
     let check = block::check(out);
     put_check(out, check);
 }

@@ -2,7 +2,7 @@
 use mathlib.Core.Path.{_≡_, refl, sym, ap, _∙_}
 use mathlib.Core.Bool.{Bool, true, false}
 use Rattle.table.proofs.Checks.{clash}
-use Rattle.house.specs.File.{front}
+use Rattle.lent.specs.Lent.{front}
 use Rattle.house.specs.Reading.{given}
 use Rattle.writer.specs.declared.answer.Writing.{Writing}
 use Rattle.writer.proofs.Laws.{one-writing}

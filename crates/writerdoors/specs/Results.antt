@@ -6,7 +6,7 @@ use mathlib.Core.List.{List, [], _∷_}
 use Prim.Native.Nat.{ℕ}
 use lib.Dec.{eqb, leb}
 use lib.ListN.{length}
-use Rattle.house.specs.File.{front}
+use Rattle.lent.specs.Lent.{front}
 use Rattle.house.specs.Reading.{given}
 use Rattle.house.specs.declared.answer.Source.{Source}
 use Rattle.house.specs.declared.answer.Source.the-variants.{Rows, Standard}

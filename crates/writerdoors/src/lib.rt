@@ -3,9 +3,6 @@
 // written to lies over another. Nothing else is asked: every input is answered. The answer is false exactly when the memory lent for
 // the results is too short, and then nothing is written; a refusal is an answer of true, with its number in the results.
 ghost use mathlib.Core.Path.{_≡_};
-ghost use Prim.Native.Nat.{_≤_};
-ghost use lib.ListN.{length};
-ghost use Rattle.house.specs.File.{front};
 ghost use Rattle.table.specs.Refusals.{told-at};
 ghost use Rattle.writer.specs.Refusals.{told-of, length-of};
 ghost use Rattle.writerdoors.specs.Results.{source-meant, write-results, WriteAnswers};
@@ -64,18 +61,6 @@ fn of_write(writing: Writing) -> [u64; 4]
     [t.number as u64, t.place as u64, t.second as u64, n as u64]
 }
 
-// Copies src to the start of dst; the rest of dst stays.
-fn put(src: &[u64], dst: &mut [u64])
-    requires { ⌜ length (now src) ≤ length (now dst) ⌝ }
-    ensures { λ _. ⌜ now (dst .exit) ≡ front (now (dst .entry)) (now (src .entry)) ⌝ }
-{
-    let mut i: usize = 0;
-    while i < src.len() {
-        dst[i] = src[i];
-        i += 1;
-    }
-}
-
 // Writes a house file to the start of `out`. The source is 0 for the rows that are given, anything else for the standard box. The results
 // are number, place and second place, and how many bytes the file has.
 #[no_mangle]
@@ -107,6 +92,6 @@ pub extern "C" fn rillmoth_write(
         trace,
         &mut *out,
     );
-    put(&of_write(writing), &mut *told);
+    lent::put_words(&of_write(writing), &mut *told, 0);
     true
 }

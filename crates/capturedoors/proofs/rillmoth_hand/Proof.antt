@@ -15,11 +15,11 @@ hand-requires c κs = search needs
 of-hand-requires : tie.Need-of-hand-requires
 of-hand-requires c κs = search needs
 
-slice-aggregate-put : tie.Need-slice-aggregate-put
-slice-aggregate-put c = search needs
+slice-aggregate-put-words : tie.Need-slice-aggregate-put-words
+slice-aggregate-put-words c = search needs
 
-put-requires : tie.Need-put-requires
-put-requires c κs = search needs
+put-words-requires : tie.Need-put-words-requires
+put-words-requires c κs = search needs
 
 same-length : tie.Need-same-length
 same-length c = search needs
@@ -29,7 +29,7 @@ returns-2 c =
     let p = c .before .before in
     let w = p .before .before .before in
     let h = w .before in
-    hands-by (h .hand .result) (le-leb _ _ (h .before .if1 .left)) (h .hand .ensures) (w .of-hand .ensures) (p .put .ensures)
+    hands-by (h .hand .result) (le-leb _ _ (h .before .if1 .left)) (h .hand .ensures) (w .of-hand .ensures) (p .put-words .ensures)
 
 pub rillmoth-hand-spec : {M : Type 1} → statement M
 rillmoth-hand-spec =
@@ -38,7 +38,7 @@ rillmoth-hand-spec =
     returns
     hand-requires
     of-hand-requires
-    slice-aggregate-put
-    put-requires
+    slice-aggregate-put-words
+    put-words-requires
     same-length
     returns-2)

@@ -15,11 +15,11 @@ import-requires c κs = search needs
 of-import-requires : tie.Need-of-import-requires
 of-import-requires c κs = search needs
 
-slice-aggregate-put : tie.Need-slice-aggregate-put
-slice-aggregate-put c = search needs
+slice-aggregate-put-words : tie.Need-slice-aggregate-put-words
+slice-aggregate-put-words c = search needs
 
-put-requires : tie.Need-put-requires
-put-requires c κs = search needs
+put-words-requires : tie.Need-put-words-requires
+put-words-requires c κs = search needs
 
 same-length : tie.Need-same-length
 same-length c = search needs
@@ -32,7 +32,7 @@ returns-2 c =
     let p = c .before .before in
     let w = p .before .before .before in
     let i = w .before .before .before in
-    imports-by (i .import .result) (le-leb _ _ (i .before .before .if1 .left)) (i .import .ensures) (w .of-import .ensures) (p .put .ensures)
+    imports-by (i .import .result) (le-leb _ _ (i .before .before .if1 .left)) (i .import .ensures) (w .of-import .ensures) (p .put-words .ensures)
 
 pub rillmoth-import-spec : {M : Type 1} → statement M
 rillmoth-import-spec =
@@ -41,8 +41,8 @@ rillmoth-import-spec =
     returns
     import-requires
     of-import-requires
-    slice-aggregate-put
-    put-requires
+    slice-aggregate-put-words
+    put-words-requires
     same-length
     same-length-2
     returns-2)

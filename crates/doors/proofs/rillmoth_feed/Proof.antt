@@ -1,14 +1,12 @@
 -- `rillmoth_feed` meets its contract. Assumes nothing.
-use mathlib.Core.Path.{_≡_}
 use Rattle.monitor.specs.Feed.{Feeds}
 use Rattle.doors.specs.Layout.{session-in}
 use Rattle.doors.proofs.Kept.{fed-alike, fed-held, held-put}
 use Rattle.doors.proofs.Layouts.{proper-in}
 use Rattle.doors.proofs.Flags.{fed-small}
-use Rattle.doors.proofs.Answers.{room, told-put, feeds-by}
+use Rattle.doors.proofs.Answers.{room, feeds-by}
 use Rattle.table.proofs.Checks.{passed, failed}
 use Rattle.doors.specs.Doors as doors
-use native.Mathlib.Omega.{arith}
 use borrow.Author.Needs.{needs}
 use Rattle.doors.proofs.rillmoth_feed.Statement.{statement}
 use Rattle.doors.proofs.rillmoth_feed.Tie as tie
@@ -42,13 +40,11 @@ put-held-requires c κs =
 of-test-requires : tie.Need-of-test-requires
 of-test-requires c κs = search needs
 
-slice-aggregate-copy-words : tie.Need-slice-aggregate-copy-words
-slice-aggregate-copy-words c = search needs
+slice-aggregate-put-words : tie.Need-slice-aggregate-put-words
+slice-aggregate-put-words c = search needs
 
-copy-words-requires : tie.Need-copy-words-requires
-copy-words-requires c κs =
-    let r = room (c .before .before .before .before .before .before .before .before .before .before .before .before .before .before .before .before .before .before .before .before .before .before .args .words .now) (c .before .before .before .before .before .before .before .before .before .before .before .before .before .before .before .before .before .before .before .before .before .before .args .bytes .now) (c .before .before .before .before .before .before .before .before .before .before .before .before .before .before .before .before .before .before .before .before .before .before .args .told .now) (passed _ (c .before .before .before .before .before .before .before .before .before .before .before .before .before .before .before .before .before .before .roomy .ensures) (c .before .before .before .before .before .before .before .before .before .before .before .before .before .before .before .before .before .if1 .left)) in
-    omega (arith, r .told)
+put-words-requires-2 : tie.Need-put-words-requires-2
+put-words-requires-2 c κs = search needs
 
 same-length : tie.Need-same-length
 same-length c = search needs
@@ -75,7 +71,8 @@ returns-2 c =
     e
     (c .before .before .before .before .before .before .before .before .before .before .before .before .before .put-words .ensures)
     (held-put w b _ (f .session) (r .bytes) n (fed-alike _ _ _ e) (c .before .before .before .before .before .before .before .before .put-held .ensures))
-    (told-put _ _ _ _ (c .before .before .before .before .before .of-test .ensures) (c .before .before .copy-words .ensures))
+    (c .before .before .before .before .before .of-test .ensures)
+    (c .before .before .put-words2 .ensures)
 
 pub rillmoth-feed-spec : {M : Type 1} → statement M
 rillmoth-feed-spec =
@@ -88,8 +85,8 @@ rillmoth-feed-spec =
     put-words-requires
     put-held-requires
     of-test-requires
-    slice-aggregate-copy-words
-    copy-words-requires
+    slice-aggregate-put-words
+    put-words-requires-2
     same-length
     same-length-2
     same-length-3

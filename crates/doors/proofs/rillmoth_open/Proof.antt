@@ -1,9 +1,8 @@
 -- `rillmoth_open` meets its contract. Assumes nothing.
 use Rattle.doors.proofs.Flags.{opened-small}
-use Rattle.doors.proofs.Answers.{room, told-put, opens-by}
+use Rattle.doors.proofs.Answers.{room, opens-by}
 use Rattle.table.proofs.Checks.{passed, failed}
 use Rattle.doors.specs.Doors as doors
-use native.Mathlib.Omega.{arith}
 use borrow.Author.Needs.{needs}
 use Rattle.doors.proofs.rillmoth_open.Statement.{statement}
 use Rattle.doors.proofs.rillmoth_open.Tie as tie
@@ -30,13 +29,11 @@ put-bytes-requires c κs =
 of-test-requires : tie.Need-of-test-requires
 of-test-requires c κs = search needs
 
-slice-aggregate-copy-words : tie.Need-slice-aggregate-copy-words
-slice-aggregate-copy-words c = search needs
+slice-aggregate-put-words : tie.Need-slice-aggregate-put-words
+slice-aggregate-put-words c = search needs
 
-copy-words-requires : tie.Need-copy-words-requires
-copy-words-requires c κs =
-    let r = room (c .before .before .before .before .before .before .before .before .before .before .before .before .before .before .before .before .before .before .before .args .words .now) (c .before .before .before .before .before .before .before .before .before .before .before .before .before .before .before .before .before .before .before .args .bytes .now) (c .before .before .before .before .before .before .before .before .before .before .before .before .before .before .before .before .before .before .before .args .told .now) (passed _ (c .before .before .before .before .before .before .before .before .before .before .before .before .before .before .roomy .ensures) (c .before .before .before .before .before .before .before .before .before .before .before .before .before .if1 .left)) in
-    omega (arith, r .told)
+put-words-requires-2 : tie.Need-put-words-requires-2
+put-words-requires-2 c κs = search needs
 
 same-length : tie.Need-same-length
 same-length c = search needs
@@ -49,13 +46,15 @@ same-length-3 c = search needs
 
 returns-2 : tie.Need-returns-2
 returns-2 c =
+    let enough = passed _ (c .before .before .before .before .before .before .before .before .before .before .before .before .before .before .before .before .before .roomy .ensures) (c .before .before .before .before .before .before .before .before .before .before .before .before .before .before .before .before .if1 .left) in
     opens-by
     (c .before .before .before .before .before .before .before .before .before .before .before .before .before .before .before .«open» .result)
-    (passed _ (c .before .before .before .before .before .before .before .before .before .before .before .before .before .before .before .before .before .roomy .ensures) (c .before .before .before .before .before .before .before .before .before .before .before .before .before .before .before .before .if1 .left))
+    enough
     (c .before .before .before .before .before .before .before .before .before .before .before .before .before .before .before .«open» .ensures)
     (c .before .before .before .before .before .before .before .before .before .before .before .before .put-words .ensures)
     (c .before .before .before .before .before .before .before .before .put-bytes .ensures)
-    (told-put _ _ _ _ (c .before .before .before .before .before .of-test .ensures) (c .before .before .copy-words .ensures))
+    (c .before .before .before .before .before .of-test .ensures)
+    (c .before .before .put-words2 .ensures)
 
 pub rillmoth-open-spec : {M : Type 1} → statement M
 rillmoth-open-spec =
@@ -67,8 +66,8 @@ rillmoth-open-spec =
     put-words-requires
     put-bytes-requires
     of-test-requires
-    slice-aggregate-copy-words
-    copy-words-requires
+    slice-aggregate-put-words
+    put-words-requires-2
     same-length
     same-length-2
     same-length-3

@@ -1,5 +1,5 @@
 -- `rillmoth_read` meets its contract. Assumes nothing.
-use Rattle.doors.proofs.Answers.{told-put, reads-by}
+use Rattle.doors.proofs.Answers.{reads-by}
 use borrow.Author.Tests.{lt-leb, le-leb}
 use Rattle.doors.specs.Doors as doors
 use borrow.Author.Needs.{needs}
@@ -15,11 +15,11 @@ read-requires c κs = search needs
 of-read-requires : tie.Need-of-read-requires
 of-read-requires c κs = search needs
 
-slice-aggregate-copy-words : tie.Need-slice-aggregate-copy-words
-slice-aggregate-copy-words c = search needs
+slice-aggregate-put-words : tie.Need-slice-aggregate-put-words
+slice-aggregate-put-words c = search needs
 
-copy-words-requires : tie.Need-copy-words-requires
-copy-words-requires c κs = search needs
+put-words-requires : tie.Need-put-words-requires
+put-words-requires c κs = search needs
 
 same-length : tie.Need-same-length
 same-length c = search needs
@@ -32,7 +32,7 @@ same-length-3 c = search needs
 
 returns-2 : tie.Need-returns-2
 returns-2 c =
-    reads-by (c .before .before .before .before .before .before .before .before .before .before .read .result) (le-leb _ _ (c .before .before .before .before .before .before .before .before .before .before .before .before .before .if1 .left)) (c .before .before .before .before .before .before .before .before .before .before .read .ensures) (told-put _ _ _ _ (c .before .before .before .before .before .of-read .ensures) (c .before .before .copy-words .ensures))
+    reads-by (c .before .before .before .before .before .before .before .before .before .before .read .result) (le-leb _ _ (c .before .before .before .before .before .before .before .before .before .before .before .before .before .if1 .left)) (c .before .before .before .before .before .before .before .before .before .before .read .ensures) (c .before .before .before .before .before .of-read .ensures) (c .before .before .put-words .ensures)
 
 pub rillmoth-read-spec : {M : Type 1} → statement M
 rillmoth-read-spec =
@@ -41,8 +41,8 @@ rillmoth-read-spec =
     returns
     read-requires
     of-read-requires
-    slice-aggregate-copy-words
-    copy-words-requires
+    slice-aggregate-put-words
+    put-words-requires
     same-length
     same-length-2
     same-length-3

@@ -1,6 +1,6 @@
 -- `rillmoth_run` meets its contract. Assumes nothing.
 use Rattle.doors.proofs.Flags.{ran-small}
-use Rattle.doors.proofs.Answers.{told-put, runs-by}
+use Rattle.doors.proofs.Answers.{runs-by}
 use borrow.Author.Tests.{lt-leb, le-leb}
 use Rattle.doors.specs.Doors as doors
 use borrow.Author.Needs.{needs}
@@ -16,11 +16,11 @@ run-requires c κs = search needs
 of-run-requires : tie.Need-of-run-requires
 of-run-requires c κs = ran-small _ _ _ _ _ _ _ _ _ _ (c .before .before .run .ensures)
 
-slice-aggregate-copy-words : tie.Need-slice-aggregate-copy-words
-slice-aggregate-copy-words c = search needs
+slice-aggregate-put-words : tie.Need-slice-aggregate-put-words
+slice-aggregate-put-words c = search needs
 
-copy-words-requires : tie.Need-copy-words-requires
-copy-words-requires c κs = search needs
+put-words-requires : tie.Need-put-words-requires
+put-words-requires c κs = search needs
 
 same-length : tie.Need-same-length
 same-length c = search needs
@@ -30,7 +30,7 @@ same-length-2 c = search needs
 
 returns-2 : tie.Need-returns-2
 returns-2 c =
-    runs-by (c .before .before .before .before .before .before .before .before .run .result) (le-leb _ _ (c .before .before .before .before .before .before .before .before .before .before .if1 .left)) (c .before .before .before .before .before .before .before .before .run .ensures) (told-put _ _ _ _ (c .before .before .before .before .before .of-run .ensures) (c .before .before .copy-words .ensures))
+    runs-by (c .before .before .before .before .before .before .before .before .run .result) (le-leb _ _ (c .before .before .before .before .before .before .before .before .before .before .if1 .left)) (c .before .before .before .before .before .before .before .before .run .ensures) (c .before .before .before .before .before .of-run .ensures) (c .before .before .put-words .ensures)
 
 pub rillmoth-run-spec : {M : Type 1} → statement M
 rillmoth-run-spec =
@@ -39,8 +39,8 @@ rillmoth-run-spec =
     returns
     run-requires
     of-run-requires
-    slice-aggregate-copy-words
-    copy-words-requires
+    slice-aggregate-put-words
+    put-words-requires
     same-length
     same-length-2
     returns-2)

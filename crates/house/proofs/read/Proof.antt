@@ -3,7 +3,7 @@ use mathlib.Core.Path.{sym, _∙_}
 use borrow.Author.Tests.{not-true, not-false}
 use borrow.Author.Needs.{needs}
 use Rattle.house.specs.File.{rows-of, events-of}
-use Rattle.house.proofs.Files.{put-front}
+use Rattle.lent.proofs.Laws.{put-fits}
 use Rattle.house.proofs.Contents.{roomy, good-passed, after-good, after-refused}
 use Rattle.house.proofs.read.Statement.{statement}
 use Rattle.house.proofs.read.Tie as tie
@@ -46,8 +46,8 @@ returns-2 c =
     let room = roomy s _ _ (good-passed _ _ r (c .before .before .before .before .before .before .before .before .before .before .judge .ensures) good) in
     record {
       reading = c .before .before .before .before .before .before .before .before .before .before .judge .ensures;
-      rows = c .before .before .before .before .before .before .gather .ensures ∙ put-front (a .rows .now) (rows-of s) (room .0) ∙ after-good r (a .rows .now) (rows-of s) good;
-      events = c .before .before .gather2 .ensures ∙ put-front (a .events .now) (events-of s) (room .1) ∙ after-good r (a .events .now) (events-of s) good;
+      rows = c .before .before .before .before .before .before .gather .ensures ∙ put-fits (a .rows .now) (rows-of s) (room .0) ∙ after-good r (a .rows .now) (rows-of s) good;
+      events = c .before .before .gather2 .ensures ∙ put-fits (a .events .now) (events-of s) (room .1) ∙ after-good r (a .events .now) (events-of s) good;
     }
 
 pub read-spec : {M : Type 1} → statement M

@@ -18,11 +18,11 @@ write-requires c κs = search needs
 of-write-requires : tie.Need-of-write-requires
 of-write-requires c κs = search needs
 
-slice-aggregate-put : tie.Need-slice-aggregate-put
-slice-aggregate-put c = search needs
+slice-aggregate-put-words : tie.Need-slice-aggregate-put-words
+slice-aggregate-put-words c = search needs
 
-put-requires : tie.Need-put-requires
-put-requires c κs = search needs
+put-words-requires : tie.Need-put-words-requires
+put-words-requires c κs = search needs
 
 same-length : tie.Need-same-length
 same-length c = search needs
@@ -36,7 +36,7 @@ returns-2 c =
     let w = p .before .before .before in
     let i = w .before .before .before in
     let m = i .before .before in
-    writes-by (i .write .result) (le-leb _ _ (m .before .if1 .left)) (m .meant .ensures) (i .write .ensures) (w .of-write .ensures) (p .put .ensures)
+    writes-by (i .write .result) (le-leb _ _ (m .before .if1 .left)) (m .meant .ensures) (i .write .ensures) (w .of-write .ensures) (p .put-words .ensures)
 
 pub rillmoth-write-spec : {M : Type 1} → statement M
 rillmoth-write-spec =
@@ -46,8 +46,8 @@ rillmoth-write-spec =
     meant-requires
     write-requires
     of-write-requires
-    slice-aggregate-put
-    put-requires
+    slice-aggregate-put-words
+    put-words-requires
     same-length
     same-length-2
     returns-2)

@@ -4,7 +4,7 @@ use Prim.Native.Nat.{_-_, _≤_}
 use native.Mathlib.Omega.{arith}
 use lib.ListN.{length, length-set}
 use Rattle.capture.specs.Capture.{records, octets}
-use Rattle.capture.specs.Importing.{front}
+use Rattle.lent.specs.Lent.{front}
 use Rattle.capture.proofs.Records.{octets-none, octet-of, octet-put}
 use borrow.Author.Needs.{needs}
 use Rattle.capture.proofs.whole.gather.Statement.{statement}

@@ -9,31 +9,32 @@ use Rattle.doors.proofs.layout.put_words.Tie as tie
 flag-word-requires : tie.Need-flag-word-requires
 flag-word-requires c κs = search needs
 
-copy-words-requires : tie.Need-copy-words-requires
-copy-words-requires c κs = search needs
+put-words-requires : tie.Need-put-words-requires
+put-words-requires c κs = search needs
 
-slice-aggregate-copy-words : tie.Need-slice-aggregate-copy-words
-slice-aggregate-copy-words c = search needs
+slice-aggregate-put-words : tie.Need-slice-aggregate-put-words
+slice-aggregate-put-words c = search needs
 
-copy-words-requires-2 : tie.Need-copy-words-requires-2
-copy-words-requires-2 c κs = search needs
+put-words-requires-2 : tie.Need-put-words-requires-2
+put-words-requires-2 c κs = search needs
 
 same-length : tie.Need-same-length
 same-length c = search needs
 
 returns : tie.Need-returns
 returns c =
-    let s = c .before .before .before .before .before .before .before .before .before .before .before .before .before .before .args .t2 in
+    let o = c .before .before .before .before .before .before .before .before .before .before .before .before .before .before in
+    let s = o .args .t2 in
     let n : length (s .set) ≡ 264 = search needs in
-    words-put (c .before .before .before .before .before .before .before .before .before .before .before .before .before .before .args .words .now) _ _ s _ n (c .before .before .before .before .before .before .before .before .before .before .before .before .flag-word .ensures) (c .before .before .before .before .before .before .before .copy-words .ensures) (c .before .before .copy-words2 .ensures)
+    words-put (o .args .words .now) _ _ s _ (o .pre .0) n (c .before .before .before .before .before .before .before .before .before .before .before .before .flag-word .ensures) (c .before .before .before .before .before .before .before .put-words .ensures) (c .before .before .put-words2 .ensures)
 
 pub put-words-spec : {M : Type 1} → statement M
 put-words-spec =
     tie.close
     (tie.spec
     flag-word-requires
-    copy-words-requires
-    slice-aggregate-copy-words
-    copy-words-requires-2
+    put-words-requires
+    slice-aggregate-put-words
+    put-words-requires-2
     same-length
     returns)

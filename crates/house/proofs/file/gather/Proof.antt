@@ -4,8 +4,10 @@ use Prim.Native.Nat.{_-_, _≤_}
 use native.Mathlib.Omega.{arith}
 use lib.ListN.{length}
 use borrow.Author.Needs.{needs}
-use Rattle.house.specs.File.{blocks, joined, front}
-use Rattle.house.proofs.Files.{joined-none, part-adds, part-fits, part-put, put-front, put-none}
+use Rattle.lent.specs.Lent.{front}
+use Rattle.lent.proofs.Laws.{put-fits, put-short}
+use Rattle.house.specs.File.{blocks, joined}
+use Rattle.house.proofs.Files.{joined-none, part-adds, part-fits, part-put}
 use Rattle.house.proofs.file.gather.Statement.{statement}
 use Rattle.house.proofs.file.gather.Tie as tie
 
@@ -21,7 +23,7 @@ measure-requires c κs = search needs
 returns : tie.Need-returns Inv-loop μ-loop
 returns c =
     let a = c .before .before .before .before .args in
-    sym (put-none (a .dst .now) (joined (a .q) (a .file .now) (blocks (a .file .now))) (omega arith))
+    sym (put-short (a .dst .now) (joined (a .q) (a .file .now) (blocks (a .file .now))) (omega arith))
 
 loop-holds : tie.Need-loop-holds Inv-loop μ-loop
 loop-holds c =
@@ -35,18 +37,8 @@ block-at-requires c κs = search needs
 share-requires : tie.Need-share-requires Inv-loop μ-loop
 share-requires c κs = search needs
 
-copy-requires : tie.Need-copy-requires Inv-loop μ-loop
-copy-requires c κs =
-    let a = c .before .before .before .before .before .before .before .before .before .args in
-    let l = c .before .before .before .before .loop in
-    omega (
-      arith,
-      l .inv .1,
-      l .inv .3,
-      c .before .before .before .before .before .before .measure .ensures,
-      c .before .before .before .before .before .if1 .left,
-      part-fits (a .q) (a .file .now) _ _ (l .k) (c .before .before .block-at .ensures) (c .before .share .ensures) (c .before .before .before .loop-test .taken),
-    )
+put-bytes-requires : tie.Need-put-bytes-requires Inv-loop μ-loop
+put-bytes-requires c κs = search needs
 
 add-at : tie.Need-add-at Inv-loop μ-loop
 add-at c =
@@ -71,10 +63,13 @@ loop-again c =
     let a = c .before .before .before .before .before .before .before .before .before .before .before .before .args in
     let l = c .before .before .before .before .before .before .before .loop in
     let b = c .before .before .before .before .before .block-at .ensures in
-    let p = c .before .before .before .before .share .ensures in (
+    let p = c .before .before .before .before .share .ensures in
+    let f = part-fits (a .q) (a .file .now) _ _ (l .k) b p (c .before .before .before .before .before .before .loop-test .taken) in
+    let m = c .before .before .before .before .before .before .before .before .before .measure .ensures in
+    let enough = c .before .before .before .before .before .before .before .before .if1 .left in (
       search needs,
       omega (arith, l .inv .1, part-adds (a .q) (a .file .now) _ _ (l .k) b p),
-      part-put (a .q) (a .file .now) _ _ (l .k) b p (a .dst .now) (l .dst) _ (l .at) (l .inv .1) (l .inv .2) (c .before .before .copy .ensures),
+      part-put (a .q) (a .file .now) _ _ (l .k) b p (a .dst .now) (l .dst) _ (l .at) (l .inv .1) (l .inv .2) (omega (arith, l .inv .1, f, m, enough)) (c .before .before .put-bytes .ensures),
       omega (arith, l .inv .3),
     )
 
@@ -86,7 +81,7 @@ returns-2 c =
     let a = c .before .before .before .before .before .before .args in
     let all = joined (a .q) (a .file .now) (blocks (a .file .now)) in
     let full : c .before .loop .k ≡ blocks (a .file .now) = omega arith in
-    (rw full at (c .before .loop .inv .2)) ∙ sym (put-front (a .dst .now) all (omega (arith, c .before .before .before .measure .ensures, c .before .before .if1 .left)))
+    (rw full at (c .before .loop .inv .2)) ∙ sym (put-fits (a .dst .now) all (omega (arith, c .before .before .before .measure .ensures, c .before .before .if1 .left)))
 
 pub gather-spec : {M : Type 1} → statement M
 gather-spec =
@@ -99,7 +94,7 @@ gather-spec =
     loop-holds
     block-at-requires
     share-requires
-    copy-requires
+    put-bytes-requires
     add-at
     add-k
     loop-less

@@ -11,8 +11,8 @@ clear-requires c κs = search needs
 put-header-requires : tie.Need-put-header-requires
 put-header-requires c κs = search needs
 
-copy-requires : tie.Need-copy-requires
-copy-requires c κs = search needs
+put-bytes-requires : tie.Need-put-bytes-requires
+put-bytes-requires c κs = search needs
 
 check-requires : tie.Need-check-requires
 check-requires c κs = search needs
@@ -29,7 +29,7 @@ returns c =
     let a = s .args in
     let cleared = c .before .before .before .before .before .before .before .before .before .before .before .before .before .before .before .before .clear in
     let headed = c .before .before .before .before .before .before .before .before .before .before .before .before .put-header in
-    let copied = c .before .before .before .before .before .before .before .before .copy in
+    let copied = c .before .before .before .before .before .before .before .before .put-bytes in
     let checked = c .before .before .before .before .check in
     let ended = c .before .before .put-check in
     written (a .kind) (a .number) (checked .result) _ (a .payload .now) (a .out .now) (cleared .last .0) (headed .last .0) (copied .last .1 .0) (ended .last .0)
@@ -41,7 +41,7 @@ put-spec =
     (tie.spec
     clear-requires
     put-header-requires
-    copy-requires
+    put-bytes-requires
     check-requires
     put-check-requires
     same-length
