@@ -1,8 +1,8 @@
 // What the doors cost: the proved functions called as the library calls them itself, through the C door, and through the Rust door
 // (bench/door), on the same workloads in one process. Prints a markdown table. Exit status 1 where they do not agree.
 //
-// The functions within the library have no names to link to. bench/run makes a second copy of the module, in which those that are called
-// here have one; they are called as the module itself calls them: the answer's address first, a slice as the address of its address and
+// The functions within the library have no names to link to. bench/run makes a second copy of its modules, in which those that are called
+// here have one; they are called as the modules themselves call them: the answer's address first, a slice as the address of its address and
 // count, a session by its address.
 #include <time.h>
 

@@ -15,6 +15,10 @@ PutFits = (d p : List ℕ) → length p ≤ length d → put d p ≡ front d p
 abbrev pub PutShort : Type 0
 PutShort = (d p : List ℕ) → length d < length p → put d p ≡ d
 
+-- Where x is memory d after what is q was put there, from the start on.
+abbrev pub PutStart : Type 0
+PutStart = (d p q x : List ℕ) → length q ≤ length d → p ≡ q → x ≡ put-at d 0 p → x ≡ front d q
+
 -- So it is from a place on.
 abbrev pub PutAtFits : Type 0
 PutAtFits = (d : List ℕ) (to : ℕ) (p : List ℕ) → to + length p ≤ length d → put-at d to p ≡ paste d to p (length p)

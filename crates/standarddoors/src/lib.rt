@@ -1,4 +1,4 @@
-// The standard box for programs in other languages, as the crate `doors` has the monitor for them: numbers and lent slices only. A slice is
+// The standard box for programs in other languages, as the crate `sessiondoors` has sessions for them: numbers and lent slices only. A slice is
 // passed as its address and its count of elements; the address is not null, also where the count is 0. Nothing else is asked.
 ghost use Rattle.standarddoors.specs.Results.{Giving};
 

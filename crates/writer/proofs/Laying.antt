@@ -34,7 +34,7 @@ filled : (q k : ℕ) (p : List ℕ) → length p ≤ room
 unfolding body
 filled q k p h =
     let head = header q k (length p) in
-    put-at-fits (head ++ replicate (room + 2) 0) payload-at p (simp (length-append, length-replicate) (omega arith))
+    put-at-fits (head ++ replicate (room + 2) 0) payload-at p (simp length-append (omega arith))
     ∙ ap (λ (l : List ℕ). head ++ l ++ drop (payload-at + length p) (head ++ replicate (room + 2) 0)) (take-length p)
     ∙ ap (λ (l : List ℕ). head ++ p ++ l) (sym (drop-drop (length p) payload-at (head ++ replicate (room + 2) 0)) ∙ tail (length p) h)
     ∙ sym (append-assoc (head ++ p) (replicate (room - length p) 0) (replicate 2 0))

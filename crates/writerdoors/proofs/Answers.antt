@@ -1,13 +1,13 @@
 -- What the function wrote is what its contract says. Assumes nothing.
-use mathlib.Core.Path.{_≡_, ap, _∙_}
+use mathlib.Core.Path.{_≡_}
 use mathlib.Core.Bool.{true}
 use mathlib.Core.List.{List}
 use Prim.Native.Nat.{ℕ}
 use lib.Dec.{leb}
 use lib.ListN.{length}
 use borrow.Author.Tests.{leb-true}
-use Rattle.lent.specs.Lent.{front, put, put-at}
-use Rattle.lent.proofs.Laws.{put-fits}
+use Rattle.lent.specs.Lent.{front, put-at}
+use Rattle.lent.proofs.Laws.{put-start}
 use Rattle.house.specs.Reading.{given}
 use Rattle.house.specs.declared.answer.Source.{Source}
 use Rattle.writer.specs.Writing.{Writes}
@@ -18,6 +18,6 @@ use Rattle.writerdoors.specs.Results as doors
 pub writes-by : {source source′ : Source} {rows : List ℕ} {states inputs outputs waiting losses : ℕ} {trace o t o′ v t′ : List ℕ} (w : Writing)
     → leb write-size (length t) ≡ true → source′ ≡ source → Writes (given source′ states inputs outputs waiting losses rows trace) rows trace o w o′
     → v ≡ write-results w → t′ ≡ put-at t 0 v → WriteAnswers source rows states inputs outputs waiting losses trace o t true o′ t′
-writes-by {t = t} {t′ = t′} w e s f g h =
-    let told : t′ ≡ front t (write-results w) = h ∙ ap (put t) g ∙ put-fits t (write-results w) (leb-true _ _ e) in
+writes-by {t = t} {v = v} {t′ = t′} w e s f g h =
+    let told : t′ ≡ front t (write-results w) = put-start t v (write-results w) t′ (leb-true _ _ e) g h in
     rw told (doors.writes {w = w} e (rw s at f))

@@ -1,4 +1,4 @@
-// The writer of house files for programs in other languages, as the crate `doors` has the monitor for them: numbers and lent slices only. A
+// The writer of house files for programs in other languages, as the crate `sessiondoors` has sessions for them: numbers and lent slices only. A
 // slice is passed as its address and its count of elements. The address is not null, also where the count is 0, and no slice that is
 // written to lies over another. Nothing else is asked: every input is answered. The answer is false exactly when the memory lent for
 // the results is too short, and then nothing is written; a refusal is an answer of true, with its number in the results.

@@ -1,4 +1,0 @@
-pub mod Layout
-pub mod Results
-pub mod Doors
-pub mod Laws

@@ -1,0 +1,3 @@
+pub mod Laws
+mod Flags
+mod Answers
