@@ -21,7 +21,7 @@ pub fn told(test: Test) -> Told
     }
 }
 
-// The flag in one word. A place is below the events seen, so the word holds one more.
+// The flag in one word. A place is below the events seen, so the word holds one more; of the largest number, which is no place, it is 0.
 pub fn flag_word(flag: Flag) -> u64
     ensures { λ r. ⌜ r ≡ flag-word flag % 2 ^ 64 ⌝ }
 {

@@ -18,7 +18,7 @@ use Rattle.monitor.proofs.Laws.{fed-sound}
 use Rattle.figures.specs.Figures.{flag-word}
 use Rattle.figures.proofs.Laws.{none-fits, place-fits}
 
--- the word of the flag
+-- its word holds it
 abbrev Small : Flag → Type 0
 Small f = flag-word f < 2 ^ 64
 
