@@ -22,10 +22,10 @@ use Rattle.table.specs.Tests.{counts-test}
 use Rattle.table.specs.declared.answer.Test.the-variants.{Passed}
 use Rattle.table.proofs.Laws.{counts-pass}
 use Rattle.states.specs.Decides.{Decides}
-use Rattle.states.specs.In.{In, Has, AnyOf}
+use Rattle.states.specs.In.{In, Has, AnyOf, Empty}
 use Rattle.states.proofs.Answers.{said, denied, left}
 use Rattle.states.proofs.Member.{in-or, not-in-zero}
-use Rattle.states.proofs.Same.{some-in, none-in, zero-none}
+use Rattle.states.proofs.Same.{none-in, zero-none, none-or-any}
 use Rattle.states.proofs.Words.{getD-within}
 use Rattle.monitor.specs.Sets.{Holds, Finds, InCell}
 use Rattle.monitor.specs.Session.{ZeroFrom, CellFits, SetFits, TableSound}
@@ -74,29 +74,24 @@ zeros-all n k l all b z =
 clash : {A : Type 0} → true ≡ false → A
 clash e = absurd (let z : _≡_ {A = ℕ} 0 1 = cc in omega arith)
 
--- what is in the union of all words is held, and nothing else
-module _ (set : List ℕ) (all : ℕ) (h : (s : ℕ) → In s all ↔ AnyOf 264 set s) where
-  held-one : (all ≡ 0 → ⊥) → (x : Config ℕ) × Holds set x
-  held-one n =
-      let (s, i) = some-in all n in
-      let a = h s .0 i in
+-- words of which none has a state hold nothing, and others a configuration, given here
+module _ (set : List ℕ) (len : length set ≡ 264) where
+  held-one : (s : ℕ) × AnyOf (length set) set s → (x : Config ℕ) × Holds set x
+  held-one (s, a) =
       let k = a .word in
       let l = a .small in
       let e : 8 * (k / 8) + k % 8 ≡ k = omega arith in
       (cfg s (k / 8) (k % 8), record { waiting = omega arith; run = omega arith; member = rw e (a .here) })
 
-  held-none : all ≡ 0 → (x : Config ℕ) → Holds set x → ⊥
-  held-none z x i =
+  held-none : Empty set → (x : Config ℕ) → Holds set x → ⊥
+  held-none n x i =
       let w = i .waiting in
       let r = i .run in
-      zero-none z (x .state) (h (x .state) .1 (record { word = 8 * x .waiting + x .run; small = omega arith; here = i .member }))
+      n (8 * x .waiting + x .run) (x .state) (omega arith) (i .member)
 
-  pub finds-all : Finds set (not (eqb all 0))
-  finds-all = go (eqb all 0) refl
-    where
-      go : (b : Bool) → eqb all 0 ≡ b → Finds set (not b)
-      go true e = record { yes = λ f. clash (sym f); no = λ f. held-none (eqb-true all 0 e) }
-      go false e = record { yes = λ f. held-one (eqb-false all 0 e); no = λ f. clash f }
+  pub finds : {b : Bool} → Decides b (Empty set) → Finds set (not b)
+  finds {b = true} d = record { yes = λ f. clash (sym f); no = λ f. held-none (d .yes refl) }
+  finds {b = false} d = record { yes = λ f. ⊎-elim (λ n. absurd (d .no refl n)) held-one (none-or-any (length set) set); no = λ f. clash f }
 
 -- THE ENTRIES
 

@@ -38,7 +38,7 @@ fn moved_on(s: Session, set: [u64; 264], held: [u8; 32], arrived: usize) -> Sess
     requires { ⌜ s .events < most-events ⌝ }
     ensures { λ r. ⌜ MovedOn s set held arrived r ⌝ }
 {
-    let found = sound::any(&set);
+    let found = !states::empty(&set);
     let before = s.flag;
     let flag = flagged(before, found, s.events);
     let rows = s.rows;

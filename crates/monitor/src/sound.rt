@@ -8,7 +8,7 @@ ghost use Rattle.model.specs.Table.{Bounded};
 ghost use Rattle.states.specs.Decides.{Decides};
 ghost use Rattle.states.specs.In.{Has};
 ghost use Rattle.table.specs.declared.answer.Test.the-variants.{Passed};
-ghost use Rattle.monitor.specs.Sets.{InCell, Finds};
+ghost use Rattle.monitor.specs.Sets.{InCell};
 ghost use Rattle.monitor.specs.Session.{ZeroFrom, BelowIn, CellFits, SetFits, TableSound, HeldSound, FlagFits, Sound};
 use crate::session::Flag;
 use crate::session::MOST_EVENTS;
@@ -211,23 +211,10 @@ fn held_sound(held: &[u8; 32], waiting: u8, arrived: usize, inputs: u8) -> bool
     both(below(held, n, inputs), zero_from(held, n))
 }
 
-// Whether any configuration is held.
-pub(crate) fn any(set: &[u64; 264]) -> bool
-    ensures { λ r. ⌜ Finds (now (set .entry)) r ⌝ }
-{
-    let mut all: u64 = 0;
-    let mut k: usize = 0;
-    while k < 264 {
-        all = all | set[k];
-        k += 1;
-    }
-    all != 0
-}
-
 fn flag_fits(set: &[u64; 264], flag: Flag, events: usize) -> bool
     ensures { λ r. ⌜ Decides r (FlagFits events (now (set .entry)) flag) ⌝ }
 {
-    let found = any(set);
+    let found = !states::empty(set);
     match flag {
         Flag::None => found,
         Flag::At(place) => { if found { false } else { place < events } }

@@ -1,3 +1,4 @@
+use Rattle.monitor.proofs.Passes.{finds}
 use mathlib.Core.Path.{_≡_, refl, sym, _∙_, ap}
 use native.Mathlib.Omega.{arith}
 use borrow.Author.Needs.{needs}
@@ -6,21 +7,25 @@ use Rattle.monitor.proofs.feed.moved_on.Tie as tie
 use Rattle.monitor.proofs.feed.moved_on.Reads as reads
 use Rattle.monitor.proofs.feed.moved_on.Lts as lts
 use Rattle.monitor.proofs.feed.flagged.Reads as flagged-reads
-use Rattle.monitor.proofs.sound.any.Reads as any-reads
+use Rattle.states.proofs.empty.Reads as empty-reads
 
--- src/feed.rt:81:9
-any-requires : tie.Need-any-requires
-any-requires c κs = search needs
+-- src/feed.rt:41:32
+slice-aggregate-empty : tie.Need-slice-aggregate-empty
+slice-aggregate-empty c = search needs
 
--- src/feed.rt:83:9
+-- src/feed.rt:41:18
+empty-requires : tie.Need-empty-requires
+empty-requires c κs = search needs
+
+-- src/feed.rt:43:9
 flagged-requires : tie.Need-flagged-requires
 flagged-requires c κs = search needs
 
--- src/feed.rt:94:17
-add-t12 : tie.Need-add-t12
-add-t12 c = search needs
+-- src/feed.rt:54:17
+add-t14 : tie.Need-add-t14
+add-t14 c = search needs
 
--- src/feed.rt:77:1
+-- src/feed.rt:37:1
 returns : tie.Need-returns
 returns c =
     record {
@@ -34,8 +39,9 @@ returns c =
       bytes = refl;
       events = refl;
       inputs-seen = refl;
-      flag = c .before .before .flagged .ensures _ (c .before .before .before .any .ensures);
+      flag = c .before .before .flagged .ensures _ (finds _ (search needs) (c .before .before .before .empty .ensures));
     }
 
 pub moved-on-spec : {M : Type 1} → statement M
-moved-on-spec = tie.close (tie.spec any-requires flagged-requires add-t12 returns)
+moved-on-spec =
+    tie.close (tie.spec slice-aggregate-empty empty-requires flagged-requires add-t14 returns)

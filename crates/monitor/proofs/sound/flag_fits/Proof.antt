@@ -1,5 +1,5 @@
 use Rattle.monitor.proofs.Clauses.{found-decides, unfound-decides, found-not}
-use Rattle.states.proofs.Answers.{said, denied}
+use Rattle.monitor.proofs.Passes.{finds}
 use mathlib.Core.Path.{_≡_, sym, refl}
 use native.Mathlib.Omega.{arith}
 use borrow.Author.Needs.{needs}
@@ -7,11 +7,11 @@ use Rattle.monitor.proofs.sound.flag_fits.Statement.{statement}
 use Rattle.monitor.proofs.sound.flag_fits.Tie as tie
 use Rattle.monitor.proofs.sound.flag_fits.Reads as reads
 use Rattle.monitor.proofs.sound.flag_fits.Lts as lts
-use Rattle.monitor.proofs.sound.any.Reads as any-reads
+use Rattle.states.proofs.empty.Reads as empty-reads
 
 -- src/sound.rt:140:9
-any-requires : tie.Need-any-requires
-any-requires c κs = search needs
+empty-requires : tie.Need-empty-requires
+empty-requires c κs = search needs
 
 -- src/sound.rt:142:23
 enum-told : tie.Need-enum-told
@@ -23,16 +23,16 @@ enum-known-flag c = search needs
 
 -- src/sound.rt:137:1
 returns : tie.Need-returns
-returns c = rw (c .enum-told .given .1) (found-decides _ _ (c .before .before .any .ensures))
+returns c = rw (c .enum-told .given .1) (found-decides _ _ (finds _ (search needs) (c .before .before .empty .ensures)))
 
 -- src/sound.rt:137:1
 returns-2 : tie.Need-returns-2
-returns-2 c = rw (c .before .before .flag .given .1) (found-not (c .before .before .before .before .any .ensures) (c .if1 .taken))
+returns-2 c = rw (c .before .before .flag .given .1) (found-not (finds _ (search needs) (c .before .before .before .before .empty .ensures)) (c .if1 .taken))
 
 -- src/sound.rt:137:1
 returns-3 : tie.Need-returns-3
-returns-3 c = rw (c .before .before .flag .given .1) (unfound-decides (c .before .before .before .before .any .ensures) (c .if1 .left))
+returns-3 c = rw (c .before .before .flag .given .1) (unfound-decides (finds _ (search needs) (c .before .before .before .before .empty .ensures)) (c .if1 .left))
 
 pub flag-fits-spec : {M : Type 1} → statement M
 flag-fits-spec =
-    tie.close (tie.spec any-requires enum-told enum-known-flag returns returns-2 returns-3)
+    tie.close (tie.spec empty-requires enum-told enum-known-flag returns returns-2 returns-3)
