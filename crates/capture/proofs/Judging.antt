@@ -7,7 +7,7 @@ use lib.ListN.{take, getD}
 use Rattle.table.specs.Bytes.{table-of}
 use Rattle.table.specs.declared.answer.Test.the-variants.{Passed, Refused}
 use Rattle.table.proofs.Checks.{clash}
-use Rattle.monitor.specs.declared.session.Flag.{Flag}
+use Rattle.session.specs.declared.Flag.{Flag}
 use Rattle.run.specs.declared.Ran.{Ran}
 use Rattle.monitor.specs.Laws.{Follows}
 use Rattle.run.specs.Run.{RunTo, Runs, refused, ran}

@@ -7,9 +7,9 @@ use lib.ListN.{take}
 use Rattle.model.specs.Limits.{most-inputs, most-outputs}
 use Rattle.table.specs.Bytes.{table-of}
 use Rattle.table.specs.declared.answer.Test.the-variants.{Passed}
-use Rattle.monitor.specs.declared.session.Session.{Session}
-use Rattle.monitor.specs.declared.session.Flag.{Flag}
-use Rattle.monitor.specs.Open.{opening, begun}
+use Rattle.session.specs.declared.Session.{Session}
+use Rattle.session.specs.declared.Flag.{Flag}
+use Rattle.session.specs.Open.{opening, begun}
 use Rattle.monitor.specs.Laws.{Follows, FedAll}
 use Rattle.run.specs.Run.{RunTo, Runs}
 use Rattle.run.specs.Laws.{GoodTrace}

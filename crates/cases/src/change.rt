@@ -1,8 +1,8 @@
 // A session with one field changed, as it may come from elsewhere.
 use crate::figures;
 use crate::figures::Figures;
-use monitor::session::Flag;
-use monitor::session::Session;
+use session::Flag;
+use session::Session;
 
 fn row(mut s: Session, at: usize, byte: u8) -> Session {
     if at < 2048 {

@@ -1,7 +1,7 @@
 // A set in few figures: how many configurations there are, and the least and the most of their states, waiting counts and runs.
 ghost use Prim.Native.Nat.{_<_};
 use crate::print;
-use monitor::session::Session;
+use session::Session;
 
 // The count, and the states, waiting counts and runs as bits.
 struct Digest {

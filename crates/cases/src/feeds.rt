@@ -6,7 +6,7 @@ use crate::openings;
 use crate::print;
 use crate::same;
 use monitor::feed;
-use monitor::session::Session;
+use session::Session;
 use table::Test;
 
 // The session after one event. A refusal is shown.

@@ -2,9 +2,8 @@
 use crate::figures;
 use crate::figures::Figures;
 use crate::print;
-use monitor::session;
-use monitor::session::Opened;
-use monitor::session::Session;
+use session::Opened;
+use session::Session;
 
 // The bytes from which a line takes its rows.
 const SPACE: usize = 4096;

@@ -2,8 +2,8 @@
 ghost use Rattle.io.specs.Counts.{Counts};
 use crate::digest;
 use libc::STDOUT_FILENO;
-use monitor::session::Flag;
-use monitor::session::Session;
+use session::Flag;
+use session::Session;
 use table::Refusal;
 use table::Test;
 

@@ -1,6 +1,6 @@
 // Whether two sessions are the same in every field.
-use monitor::session::Flag;
-use monitor::session::Session;
+use session::Flag;
+use session::Session;
 
 fn words(a: &[u64], b: &[u64]) -> bool {
     if a.len() != b.len() {

@@ -9,7 +9,7 @@ use crate::openings;
 use crate::print;
 use crate::runs;
 use crate::view;
-use monitor::session::Session;
+use session::Session;
 
 // The byte at a place, or a blank past the end.
 fn letter(line: &[u8], at: usize) -> u8 {

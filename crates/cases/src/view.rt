@@ -3,8 +3,8 @@ use crate::figures;
 use crate::figures::Figures;
 use crate::print;
 use crate::same;
-use monitor::session::Session;
-use monitor::sound;
+use session::Session;
+use session::sound;
 
 fn counts(s: Session) {
     print::byte(s.states);

@@ -3,7 +3,7 @@ use mathlib.Core.Path.{refl}
 use Prim.Native.Nat.{zero, suc}
 use native.Mathlib.Numerals.{add-one}
 use native.Mathlib.Omega.{arith}
-use Rattle.monitor.specs.declared.session.Flag.the-variants as flag
+use Rattle.session.specs.declared.Flag.the-variants as flag
 use Rattle.figures.specs.Figures.{flag-word, flag-in}
 use Rattle.figures.specs.Laws.{FlagBack, FlagKept, NoneFits, PlaceFits}
 

@@ -5,8 +5,8 @@ use Rattle.table.specs.Refusals as table
 use Rattle.table.specs.declared.answer.Told.{Told}
 use Rattle.table.specs.declared.answer.Test.{Test}
 use Rattle.table.specs.declared.answer.Test.the-variants.{Passed, Refused}
-use Rattle.monitor.specs.declared.session.Flag.{Flag}
-use Rattle.monitor.specs.declared.session.Flag.the-variants as flag
+use Rattle.session.specs.declared.Flag.{Flag}
+use Rattle.session.specs.declared.Flag.the-variants as flag
 
 -- The number, the place and the second place: the row and the column of number 4, the block and the offset of 20 to 23.
 abbrev pub figures : Told → List ℕ

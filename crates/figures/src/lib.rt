@@ -3,7 +3,7 @@
 ghost use mathlib.Core.Path.{_≡_};
 ghost use Prim.Native.Nat.{_^_, _%_, _<_};
 ghost use Rattle.figures.specs.Figures.{told-test, flag-word, flag-in};
-use monitor::session::Flag;
+use session::Flag;
 use table::Test;
 use table::Told;
 

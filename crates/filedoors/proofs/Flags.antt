@@ -16,10 +16,10 @@ use Rattle.table.specs.declared.answer.Refusal.{Refusal}
 use Rattle.table.specs.declared.answer.Test.{Test}
 use Rattle.table.specs.declared.answer.Test.the-variants.{Passed, Refused}
 use Rattle.table.proofs.Checks.{clash}
-use Rattle.monitor.specs.declared.session.Flag.{Flag}
-use Rattle.monitor.specs.declared.session.Flag.the-variants as flag
-use Rattle.monitor.specs.Open.{then, opening}
-use Rattle.monitor.specs.Laws.{place-of}
+use Rattle.session.specs.declared.Flag.{Flag}
+use Rattle.session.specs.declared.Flag.the-variants as flag
+use Rattle.session.specs.Open.{then, opening}
+use Rattle.session.specs.Session.{place-of}
 use Rattle.run.specs.declared.Ran.{Ran}
 use Rattle.run.specs.Run as run
 use Rattle.run.specs.Run.{limit-test, buffer-test, traced, run-test, Runs}

@@ -11,7 +11,7 @@ use lib.Seq.{take-all, take-at}
 use borrow.Author.Tests.{lt-ltb}
 use Rattle.io.specs.Digits.{glyph, digits}
 use Rattle.table.specs.declared.answer.Told.{Told}
-use Rattle.monitor.specs.declared.session.Flag.the-variants as flag
+use Rattle.session.specs.declared.Flag.the-variants as flag
 use Rattle.lines.specs.Texts.{most-text, blank, text-of, spelt, decimal, hexadecimal}
 use Rattle.lines.specs.Lines.{space, line-feed, dash, symbol, states-in, pair, consistent, flagged, refused, has-second, second-place, event-line, last-line, refused-line}
 use Rattle.lines.specs.Laws.{TextHolds, EventFits, LastFits, RefusedFits}

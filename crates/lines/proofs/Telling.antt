@@ -17,7 +17,7 @@ use Rattle.states.specs.In.{In}
 use Rattle.states.specs.Decides.{Decides}
 use Rattle.states.proofs.Same.{none-in, zero-none}
 use Rattle.states.proofs.Ends.{below-by}
-use Rattle.monitor.proofs.Laws.{opening-passes}
+use Rattle.session.proofs.Laws.{opening-passes}
 use Rattle.run.specs.Run.{StateOf, number, Line}
 use Rattle.lines.specs.Texts.{decimal, hexadecimal}
 use Rattle.lines.specs.Lines.{space, line-feed, symbol, four, states-in, pair, event-line}

@@ -10,9 +10,9 @@ use Rattle.table.specs.declared.answer.Symbol.the-variants.{Input, Output}
 use Rattle.table.specs.declared.answer.Test.the-variants.{Passed}
 use Rattle.table.specs.declared.answer.Told.{Told}
 use Rattle.states.specs.In.{In}
-use Rattle.monitor.specs.Open.{opening}
+use Rattle.session.specs.Open.{opening}
 use Rattle.run.specs.Run.{Lowest, Highest, StateOf, WaitingOf, RunOf, RunTo}
-use Rattle.monitor.specs.declared.session.Flag.{Flag}
+use Rattle.session.specs.declared.Flag.{Flag}
 use Rattle.lines.specs.Texts.{most-text, text-of, decimal, hexadecimal}
 use Rattle.lines.specs.Lines.{space, line-feed, symbol, pair, event-line, last-line, refused-line}
 

@@ -5,7 +5,7 @@ ghost use Prim.Native.Nat.{_≤_, _+_};
 ghost use lib.ListN.{getD};
 ghost use Rattle.lines.specs.Texts.{text-of, Adds, decimal, hexadecimal};
 ghost use Rattle.lines.specs.Lines.{space, line-feed, symbol, four, states-in, pair, has-second, second-place, event-line, last-line, refused-line};
-use monitor::session::Flag;
+use session::Flag;
 use table::Told;
 
 pub mod text;

@@ -17,10 +17,10 @@ use Rattle.table.specs.declared.answer.Refusal as table-refusal
 use Rattle.table.specs.declared.answer.Refusal.the-variants.{Buffer}
 use Rattle.table.specs.declared.answer.Test.the-variants.{Passed}
 use Rattle.table.specs.declared.answer.Test.the-variants as test
-use Rattle.monitor.specs.Open.{opening}
+use Rattle.session.specs.Open.{opening}
 use Rattle.run.specs.Run.{run-test, refused as run-refused, ran as run-ran}
 use Rattle.run.specs.Laws.{GoodTrace}
-use Rattle.monitor.proofs.Laws.{opening-passes}
+use Rattle.session.proofs.Laws.{opening-passes}
 use Rattle.run.proofs.Laws.{run-passes, room-decides}
 use Rattle.standard.proofs.Laws.{is-valid}
 use Rattle.house.specs.File.{rows-of, events-of, contents-of}

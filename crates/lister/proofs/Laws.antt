@@ -6,7 +6,7 @@ use native.Mathlib.Omega.{arith}
 use lib.ListN.{length}
 use Rattle.run.specs.Run.{ran}
 use Rattle.run.specs.declared.Ran.{Ran}
-use Rattle.monitor.specs.declared.session.Flag.{Flag}
+use Rattle.session.specs.declared.Flag.{Flag}
 use Rattle.run.proofs.Laws.{one-run}
 use Rattle.house.specs.File.{rows-of, events-of, contents-of}
 use Rattle.house.specs.Laws.{GoodFile}

@@ -9,7 +9,7 @@ use Rattle.table.specs.declared.answer.Test.{Test}
 use Rattle.table.specs.declared.answer.Test.the-variants as test
 use Rattle.run.specs.Run.{Runs, RunTo}
 use Rattle.run.specs.declared.Ran.{Ran}
-use Rattle.monitor.specs.declared.session.Flag.{Flag}
+use Rattle.session.specs.declared.Flag.{Flag}
 use Rattle.standard.specs.Box.{standard-rows}
 use Rattle.house.specs.File.{rows-of, events-of, contents-of}
 use Rattle.house.specs.Reading.{verdict}

@@ -3,7 +3,7 @@ use mathlib.Core.Path.{_≡_}
 use mathlib.Core.List.{List}
 use Prim.Native.Nat.{ℕ, _≤_}
 use lib.ListN.{length}
-use Rattle.monitor.specs.declared.session.Flag.{Flag}
+use Rattle.session.specs.declared.Flag.{Flag}
 use Rattle.house.specs.File.{events-of, contents-of}
 use Rattle.house.specs.Laws.{GoodFile}
 use Rattle.house.specs.declared.answer.Refusal.{Refusal}

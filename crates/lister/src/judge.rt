@@ -4,7 +4,7 @@ use house::Reading;
 use house::Refusal;
 use house::Source;
 use intake::front;
-use monitor::session::Flag;
+use session::Flag;
 use table::Test;
 ghost use mathlib.Core.Path.{_≡_};
 ghost use lib.ListN.{length, take};

@@ -2,7 +2,7 @@
 // or write ends it.
 use house::Refusal;
 use lines::Text;
-use monitor::session::Flag;
+use session::Flag;
 
 mod judge;
 

@@ -17,7 +17,8 @@ use Rattle.model.proofs.Flags.{lt-or-ge}
 use Rattle.states.specs.In.{In, Has}
 use Rattle.states.specs.Rows.{Leads}
 use Rattle.monitor.proofs.Entries.{of-leads, leads}
-use Rattle.monitor.specs.Sets.{InCell, Holds, Beside, Took, Lowered, SweptFrom, Packed, Ready, Contained}
+use Rattle.session.specs.Sets.{InCell, Holds}
+use Rattle.monitor.specs.Sweep.{Beside, Took, Lowered, SweptFrom, Packed, Ready, Contained}
 
 -- equal words have the same states
 pub same-word : {x y : ℕ} (s : ℕ) → x ≡ y → In s x ↔ In s y

@@ -9,7 +9,7 @@ use lib.Dec.{eqb}
 use borrow.Author.Tests.{eqb-true}
 use Rattle.model.specs.Table.{Table, Valid, width, byte, entry}
 use Rattle.states.specs.Rows.{Leads}
-use Rattle.monitor.specs.Sets.{Packed}
+use Rattle.monitor.specs.Sweep.{Packed}
 
 module _ (T : Table) (rows : List ℕ) (valid : Valid T) (packed : Packed T rows) (s k t : ℕ) (state : s < T .states) (column : k < width T) where
   -- a byte that is a next state is no 255

@@ -18,9 +18,10 @@ use Rattle.table.specs.Bytes.{table-of, symbol-of}
 use Rattle.table.specs.declared.answer.Symbol.{Symbol}
 use Rattle.table.specs.declared.answer.Symbol.the-variants.{Input, Output, Invalid}
 use Rattle.table.proofs.Laws.{given-means}
-use Rattle.monitor.specs.declared.session.Session.{Session}
-use Rattle.monitor.specs.Sets.{InCell, Holds, SweptFrom, Shifted, SentOn, Packed, Ready, Contained}
-use Rattle.monitor.specs.Session.{used, table-in, kept, line, Sound}
+use Rattle.session.specs.declared.Session.{Session}
+use Rattle.session.specs.Sets.{InCell, Holds}
+use Rattle.monitor.specs.Sweep.{SweptFrom, Shifted, SentOn, Packed, Ready, Contained}
+use Rattle.session.specs.Session.{used, table-in, kept, line, Sound}
 use Rattle.monitor.specs.Event.{Arrival, Departure}
 use Rattle.monitor.specs.Feed.{Shows, Held, FlagAfter, MovedOn, FedTo}
 use Rattle.monitor.proofs.Bridge.{contained-after}

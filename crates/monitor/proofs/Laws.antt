@@ -1,18 +1,6 @@
 -- Every statement of specs/Laws.antt, proved, under one roof: other crates take the laws from here. Assumes nothing.
-use Rattle.monitor.specs.Laws.{OpeningPasses, OpenedSound, ZerosUnsound, OneFeed, NotRefused, FedSound, PlausibleAfterFeeding, SessionsAllowMore}
-use Rattle.monitor.proofs.Openings
-use Rattle.monitor.proofs.Opened
+use Rattle.monitor.specs.Laws.{OneFeed, NotRefused, FedSound, PlausibleAfterFeeding, SessionsAllowMore}
 use Rattle.monitor.proofs.Sessions
-
--- Opening.
-pub opening-passes : OpeningPasses
-opening-passes = Openings.opening-passes
-
-pub opened-sound : OpenedSound
-opened-sound = Opened.opened-sound
-
-pub zeros-unsound : ZerosUnsound
-zeros-unsound = Opened.zeros-unsound
 
 -- Feeding.
 pub one-feed : OneFeed

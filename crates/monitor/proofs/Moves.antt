@@ -14,7 +14,8 @@ use Rattle.model.proofs.Newest.{oldest-newest}
 use Rattle.model.proofs.Demands.{level-by-level}
 use Rattle.states.specs.In.{In, Has}
 use Rattle.states.specs.Rows.{Leads}
-use Rattle.monitor.specs.Sets.{InCell, Holds, SweptFrom, Shifted, Followed, SentOn, Packed, Ready, Contained}
+use Rattle.session.specs.Sets.{InCell, Holds}
+use Rattle.monitor.specs.Sweep.{SweptFrom, Shifted, Followed, SentOn, Packed, Ready, Contained}
 use Rattle.states.proofs.Member.{not-in-zero}
 use Rattle.monitor.proofs.Bridge.{same-word, contained-after, words-swept}
 use Rattle.monitor.proofs.Entries.{of-leads, leads}

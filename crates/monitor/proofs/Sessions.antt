@@ -22,18 +22,18 @@ use Rattle.table.specs.declared.answer.Test.the-variants.{Passed, Refused}
 use Rattle.table.specs.declared.answer.Refusal.{Refusal}
 use Rattle.states.specs.In.{In, Has}
 use Rattle.states.proofs.Same.{words-ext}
-use Rattle.monitor.specs.declared.session.Session.{Session}
-use Rattle.monitor.specs.declared.session.Flag.{Flag}
-use Rattle.monitor.specs.declared.session.Flag.the-variants as flag
+use Rattle.session.specs.declared.Session.{Session}
+use Rattle.session.specs.declared.Flag.{Flag}
+use Rattle.session.specs.declared.Flag.the-variants as flag
 use Rattle.monitor.specs.declared.feed.Fed as declared
-use Rattle.monitor.specs.Sets.{Holds}
-use Rattle.monitor.specs.Session.{used, table-in, kept, line, ZeroFrom, TableSound, HeldSound, FlagFits, Sound}
-use Rattle.monitor.specs.Open.{zeros, padded, opening, begun}
+use Rattle.session.specs.Sets.{Holds}
+use Rattle.session.specs.Session.{table-in, kept, line, FlagFits, Sound, Proper, place-of}
+use Rattle.session.specs.Open.{opening, begun}
+use Rattle.session.proofs.Laws.{opened-sound, opened-begins}
 use Rattle.monitor.specs.Feed.{Shows, FlagAfter, stays, clear, falls, FedTo, passed, ValidEvent, Feeds, unsound, full, invalid, fed}
-use Rattle.monitor.specs.Laws.{Proper, OneFeed, NotRefused, FedSound, place-of, Follows, FedAll, none-left, then, PlausibleAfterFeeding, KeptBy, SessionsAllowMore}
+use Rattle.monitor.specs.Laws.{OneFeed, NotRefused, FedSound, Follows, FedAll, none-left, then, PlausibleAfterFeeding, KeptBy, SessionsAllowMore}
 use Rattle.monitor.proofs.Lines.{shows-one, shown-take}
 use Rattle.monitor.proofs.Feeding.{length-line, line-valid, fit, valid-more, event-cases}
-use Rattle.monitor.proofs.Opened.{first-set, first-session, first-holds, first-sound, first-proper, begun-rows, begun-rest}
 
 clash : _≡_ {A = ℕ} 0 1 → ⊥
 clash z = omega arith
@@ -209,24 +209,24 @@ fed-sound s t b p k = let w = went s b (passed t) t refl k in (went-sound s t b 
 -- THE PLAUSIBLE SET
 
 -- before any event
-pub first-follows : (rows rows′ : List ℕ) (s i o B c : ℕ) → opening rows s i o B c ≡ Passed → take (s * (i + o)) rows′ ≡ rows → ZeroFrom (s * (i + o)) rows′
-    → Follows (table-of rows s i o) B c [] (first-session rows′ s i o B c)
-first-follows rows rows′ s i o B c e packed rest =
+first-follows : (rows : List ℕ) (s i o B c : ℕ) → opening rows s i o B c ≡ Passed → Follows (table-of rows s i o) B c [] (begun rows s i o B c)
+first-follows rows s i o B c e =
     let open′ = opens (box (table-of rows s i o)) B c in
-    let z : min B 0 ≡ 0 = omega arith in
+    let (sound, holds) = opened-sound rows s i o B c e in
+    let begins = opened-begins rows s i o B c e in
     record {
-      sound = first-sound rows rows′ s i o B c e packed rest;
-      proper = first-proper rows′ s i o B c;
-      table = ap (λ (l : List ℕ). table-of l s i o) packed;
-      waiting = refl;
-      losses = refl;
+      sound = sound;
+      proper = begins .proper;
+      table = begins .table;
+      waiting = begins .waiting;
+      losses = begins .losses;
       carries = record {
-        newest-inputs = rw z (open′ .newest-inputs);
-        plausible = λ x. ((λ h. open′ .plausible x .0 (first-holds x .0 h)), (λ p. first-holds x .1 (open′ .plausible x .1 p)));
+        newest-inputs = begins .held ∙ open′ .newest-inputs;
+        plausible = λ x. ((λ h. open′ .plausible x .0 (holds x .0 h)), (λ p. holds x .1 (open′ .plausible x .1 p)));
       };
-      seen = refl;
-      arrived = refl;
-      flag = λ j l. absurd (omega arith);
+      seen = begins .events;
+      arrived = begins .arrived;
+      flag = rw (begins .flag) (λ j l. absurd (omega arith));
     }
 
 -- one event more
@@ -293,10 +293,8 @@ all-follow T B c bytes (b ∷ rest) s t fo (then {t = u} fe all) = rw append-sno
 
 -- From an opened session that is the plausible set.
 pub plausible-after-feeding : PlausibleAfterFeeding
-unfolding begun
 plausible-after-feeding rows s i o B c bytes t e all =
-    all-follow (table-of rows s i o) B c [] bytes (begun rows s i o B c) t
-    (first-follows rows (padded 2048 rows) s i o B c e (begun-rows rows s i o B c e) (begun-rest rows s i o B c e)) all
+    all-follow (table-of rows s i o) B c [] bytes (begun rows s i o B c) t (first-follows rows s i o B c e) all
 
 -- Demand 3 for sessions.
 pub sessions-allow-more : SessionsAllowMore

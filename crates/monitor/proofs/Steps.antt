@@ -11,7 +11,8 @@ use Rattle.model.specs.Levels.{oldest}
 use Rattle.model.proofs.Flags.{lt-or-ge}
 use Rattle.states.specs.In.{In, Has, Any}
 use Rattle.states.specs.Rows.{Image, Sent}
-use Rattle.monitor.specs.Sets.{InCell, Level, Stored, LoweredTo, Beside, Took, Lowered, Followed, SentLevel, SentOn, SweptFrom}
+use Rattle.session.specs.Sets.{InCell}
+use Rattle.monitor.specs.Sweep.{Level, Stored, LoweredTo, Beside, Took, Lowered, Followed, SentLevel, SentOn, SweptFrom}
 use Rattle.monitor.proofs.Bridge.{same-word, swept-lower}
 
 -- a level's words are those of the set

@@ -11,7 +11,7 @@ use lib.Bits.{bitOr}
 use Rattle.states.specs.In.{In, Has}
 use Rattle.states.proofs.Member.{in-or, in-or-with}
 use Rattle.states.proofs.Words.{Filled, filled-none, filled-more}
-use Rattle.monitor.specs.Sets.{Raised, Shifted, Stored, LoweredTo}
+use Rattle.monitor.specs.Sweep.{Raised, Shifted, Stored, LoweredTo}
 
 pub raised-none : (n : ℕ) (l : List ℕ) → Raised (8 * n) n l l
 raised-none n l = record { size = refl; moved = λ i j k. absurd (omega arith); below = λ i j. refl; above = λ i j. refl }

@@ -3,7 +3,7 @@ use mathlib.Core.Path.{_≡_}
 use mathlib.Core.List.{List}
 use Prim.Native.Nat.{ℕ, _+_, min}
 use lib.ListN.{length, take}
-use Rattle.monitor.specs.Sets.{SweptFrom, Shifted, SentOn}
+use Rattle.monitor.specs.Sweep.{SweptFrom, Shifted, SentOn}
 use Rattle.monitor.specs.Feed.{Held}
 
 -- Input a comes to a line of n, of at most `most`: it has top then. The levels go up, and are swept.

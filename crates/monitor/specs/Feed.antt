@@ -13,12 +13,12 @@ use Rattle.table.specs.declared.answer.Refusal.{Refusal}
 use Rattle.table.specs.declared.answer.Refusal.the-variants as refusal
 use Rattle.table.specs.declared.answer.Symbol.the-variants.{Invalid}
 use Rattle.table.specs.declared.answer.Test.the-variants.{Passed, Refused}
-use Rattle.monitor.specs.declared.session.Session.{Session}
-use Rattle.monitor.specs.declared.session.Flag.{Flag}
-use Rattle.monitor.specs.declared.session.Flag.the-variants as flag
+use Rattle.session.specs.declared.Session.{Session}
+use Rattle.session.specs.declared.Flag.{Flag}
+use Rattle.session.specs.declared.Flag.the-variants as flag
+use Rattle.session.specs.Sets.{Holds}
+use Rattle.session.specs.Session.{table-in, line, Sound}
 use Rattle.monitor.specs.declared.feed.Fed.{Fed}
-use Rattle.monitor.specs.Sets.{Holds}
-use Rattle.monitor.specs.Session.{table-in, line, Sound}
 
 -- THE HELD INPUTS
 

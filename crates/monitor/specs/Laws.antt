@@ -1,45 +1,21 @@
--- What is shown of sessions, each under one sentence. proofs/Laws.antt proves them all. Assumes nothing.
+-- What is shown of feeding, each under one sentence. proofs/Laws.antt proves them all. Assumes nothing.
 use mathlib.Core.Path.{_≡_}
 use mathlib.Core.List.{List, [], _∷_}
 use mathlib.Core.Logic.{_↔_}
-use mathlib.Core.Option.{Option, some, none}
 use Prim.Native.Nat.{ℕ, _<_}
 use lib.ListN.{length}
 use Rattle.model.specs.Limits.{most-events}
-use Rattle.model.specs.Table.{Table, Valid, Bounded}
+use Rattle.model.specs.Table.{Table}
 use Rattle.model.specs.Model.{box, events, inputs-of, Config, cfg, FlagIs}
 use Rattle.model.specs.Demands.{Carries, Slack, Later}
 use Rattle.table.specs.Bytes.{table-of}
 use Rattle.table.specs.declared.answer.Test.the-variants.{Passed}
-use Rattle.monitor.specs.declared.session.Session.{Session}
-use Rattle.monitor.specs.declared.session.Flag.{Flag}
-use Rattle.monitor.specs.declared.session.Flag.the-variants as flag
+use Rattle.session.specs.declared.Session.{Session}
 use Rattle.monitor.specs.declared.feed.Fed.{Fed}
-use Rattle.monitor.specs.Sets.{Holds}
-use Rattle.monitor.specs.Session.{table-in, line, Sound}
-use Rattle.monitor.specs.Open.{opening, begun, zero-session}
+use Rattle.session.specs.Sets.{Holds}
+use Rattle.session.specs.Session.{table-in, line, Sound, Proper, place-of}
+use Rattle.session.specs.Open.{opening, begun}
 use Rattle.monitor.specs.Feed.{passed, ValidEvent, FedTo, Feeds}
-
--- The lengths that a session's set and held inputs have in memory.
-pub record Proper (s : Session) : Type 0 where
-  pub set : length (s .set) ≡ 264
-  pub held : length (s .held) ≡ 32
-
--- OPENING
-
--- An opening is refused exactly when the table is not valid or a bound is not within its limit.
-abbrev pub OpeningPasses : Type 0
-OpeningPasses = (rows : List ℕ) (s i o B c : ℕ) → opening rows s i o B c ≡ Passed ↔ (Valid (table-of rows s i o) × Bounded B c)
-
--- An opened session is sound and has the one configuration (0,0,0).
-abbrev pub OpenedSound : Type 0
-OpenedSound =
-    (rows : List ℕ) (s i o B c : ℕ) → opening rows s i o B c ≡ Passed
-    → Sound (begun rows s i o B c) × ((x : Config ℕ) → Holds (begun rows s i o B c .set) x ↔ (x ≡ cfg 0 0 0))
-
--- A session of zeros only is not sound.
-abbrev pub ZerosUnsound : Type 0
-ZerosUnsound = Sound zero-session → ⊥
 
 -- FEEDING
 
@@ -56,10 +32,6 @@ abbrev pub FedSound : Type 0
 FedSound = (s t : Session) (b : ℕ) → Proper s → Feeds s b (passed t) → Sound t × Proper t
 
 -- DEMAND 2 FOR SESSIONS
-
-abbrev pub place-of : Flag → Option ℕ
-place-of flag.None = none
-place-of (flag.At place) = some place
 
 -- The session s has followed the trace of the bytes, under table T and bounds B and c: its set is exactly the plausible set, its held
 -- inputs are the newest ones, and its flag is where the model has it.

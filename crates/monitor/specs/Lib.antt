@@ -1,6 +1,4 @@
-pub mod Sets
-pub mod Session
-pub mod Open
+pub mod Sweep
 pub mod Feed
 pub mod Event
 pub mod Laws

@@ -4,15 +4,15 @@ ghost use Prim.Native.Nat.{ℕ, _+_, _≤_, _<_, min};
 ghost use mathlib.Core.List.{List};
 ghost use lib.ListN.{length, take};
 ghost use Rattle.model.specs.Model.{input, output};
-ghost use Rattle.monitor.specs.Session.{Sound};
+ghost use Rattle.session.specs.Session.{Sound};
+ghost use Rattle.session.specs.Sets.{Finds};
 ghost use Rattle.monitor.specs.Feed.{FlagAfter, MovedOn, FedTo, Feeds};
 ghost use Rattle.model.specs.Limits.{most-events};
-ghost use Rattle.monitor.specs.Sets.{Finds};
 use crate::event;
-use crate::session::Flag;
-use crate::session::MOST_EVENTS;
-use crate::session::Session;
-use crate::sound;
+use session::Flag;
+use session::MOST_EVENTS;
+use session::Session;
+use session::sound;
 use table::Refusal;
 use table::Symbol;
 use table::Test;
@@ -57,13 +57,24 @@ fn moved_on(s: Session, set: [u64; 264], held: [u8; 32], arrived: usize) -> Sess
     }
 }
 
+// How many inputs are held: B of them, or all seen if fewer.
+fn held_count(waiting: u8, arrived: usize) -> usize
+    ensures { λ r. ⌜ r ≡ min waiting arrived ⌝ }
+{
+    if (waiting as usize) <= arrived {
+        waiting as usize
+    } else {
+        arrived
+    }
+}
+
 // Input a comes, and then any number of takes and losses.
 fn arrive(s: Session, a: u8) -> Session
     requires { ⌜ Sound s × (s .events < most-events) × (a < s .inputs) ⌝ }
     ensures { λ r. ⌜ FedTo s a r ⌝ }
 {
     let most = s.waiting as usize;
-    let n = sound::held_count(s.waiting, s.arrived);
+    let n = held_count(s.waiting, s.arrived);
     let mut held = s.held;
     let mut set = s.set;
     event::arrived(
@@ -84,7 +95,7 @@ fn send(s: Session, a: u8) -> Session
     requires { ⌜ Sound s × (s .events < most-events) × (a < s .outputs) ⌝ }
     ensures { λ r. ⌜ FedTo s (128 + a) r ⌝ }
 {
-    let n = sound::held_count(s.waiting, s.arrived);
+    let n = held_count(s.waiting, s.arrived);
     let mut set = s.set;
     event::sent(
         &mut set,

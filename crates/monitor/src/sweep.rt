@@ -4,7 +4,7 @@ ghost use mathlib.Core.Path.{_≡_};
 ghost use mathlib.Core.Logic.{_↔_};
 ghost use Prim.Native.Nat.{ℕ, _+_, _-_, _*_, _≤_, _<_};
 ghost use lib.ListN.{length, take};
-ghost use Rattle.monitor.specs.Sets.{Level, Stored, Lowered, SweptFrom, Raised, Shifted, SentLevel, SentOn, LoweredTo};
+ghost use Rattle.monitor.specs.Sweep.{Level, Stored, Lowered, SweptFrom, Raised, Shifted, SentLevel, SentOn, LoweredTo};
 ghost use Rattle.states.specs.In.{In, Has};
 
 // The level of w waiting: its eight words, one for each run.

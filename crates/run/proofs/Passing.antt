@@ -15,8 +15,8 @@ use Rattle.table.specs.declared.answer.Refusal.{Refusal}
 use Rattle.table.specs.declared.answer.Refusal.the-variants.{Buffer}
 use Rattle.table.specs.declared.answer.Test.the-variants.{Passed}
 use Rattle.table.proofs.Laws.{events-pass}
-use Rattle.monitor.specs.Open.{then, opening}
-use Rattle.monitor.proofs.Openings.{both-passed}
+use Rattle.session.specs.Open.{then, opening}
+use Rattle.session.proofs.Openings.{both-passed}
 use Rattle.run.specs.Run.{limit-test, buffer-test, traced, run-test}
 use Rattle.run.specs.Laws.{RunPasses, RoomDecides}
 

@@ -24,12 +24,12 @@ use Rattle.table.specs.declared.answer.Test.the-variants.{Passed}
 use Rattle.table.proofs.Laws.{given-means}
 use Rattle.states.specs.In.{In}
 use Rattle.states.proofs.Member.{not-in-zero, in-pow}
-use Rattle.monitor.specs.declared.session.Flag.{Flag}
-use Rattle.monitor.specs.declared.session.Flag.the-variants as flag
-use Rattle.monitor.specs.Open.{zeros, opening}
-use Rattle.monitor.proofs.Padded.{length-zeros, zeros-at}
-use Rattle.monitor.specs.Laws.{place-of}
-use Rattle.monitor.proofs.Laws.{opening-passes}
+use Rattle.session.specs.declared.Flag.{Flag}
+use Rattle.session.specs.declared.Flag.the-variants as flag
+use Rattle.session.specs.Open.{zeros, opening}
+use Rattle.session.proofs.Padded.{length-zeros, zeros-at}
+use Rattle.session.specs.Session.{place-of}
+use Rattle.session.proofs.Laws.{opening-passes}
 use Rattle.run.specs.declared.trace.Place.{Place}
 use Rattle.run.specs.Run.{Line, At, RunTo, Followed}
 use Rattle.run.specs.Lag.{Lagged, Came, Went, PastLags}

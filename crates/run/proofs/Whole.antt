@@ -15,11 +15,11 @@ use Rattle.table.specs.declared.answer.Refusal.{Refusal}
 use Rattle.table.specs.declared.answer.Test.the-variants.{Passed, Refused}
 use Rattle.states.specs.In.{In}
 use Rattle.states.proofs.Same.{in-ext, zero-none, zero-or-some}
-use Rattle.monitor.specs.declared.session.Flag.{Flag}
-use Rattle.monitor.specs.declared.session.Flag.the-variants as flag
+use Rattle.session.specs.declared.Flag.{Flag}
+use Rattle.session.specs.declared.Flag.the-variants as flag
 use Rattle.run.specs.declared.Ran.{Ran}
-use Rattle.monitor.specs.Sets.{Holds}
-use Rattle.monitor.specs.Laws.{place-of}
+use Rattle.session.specs.Sets.{Holds}
+use Rattle.session.specs.Session.{place-of}
 use Rattle.run.specs.Run.{Lowest, Highest, StateOf, WaitingOf, RunOf, number, Line, At, run-test, RunTo, Runs, refused, ran}
 use Rattle.run.specs.Laws.{OneLine, OneRun, Agree, RunsAsFed, RunsAllowMore}
 use Rattle.monitor.proofs.Laws.{plausible-after-feeding}

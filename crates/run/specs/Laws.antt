@@ -13,12 +13,13 @@ use Rattle.table.specs.declared.answer.Symbol.the-variants.{Invalid}
 use Rattle.table.specs.declared.answer.Refusal.the-variants.{Event}
 use Rattle.table.specs.declared.answer.Test.the-variants.{Passed, Refused}
 use Rattle.states.specs.In.{In}
-use Rattle.monitor.specs.declared.session.Session.{Session}
-use Rattle.monitor.specs.declared.session.Flag.{Flag}
+use Rattle.session.specs.declared.Session.{Session}
+use Rattle.session.specs.declared.Flag.{Flag}
 use Rattle.run.specs.declared.Ran.{Ran}
-use Rattle.monitor.specs.Sets.{Holds}
-use Rattle.monitor.specs.Open.{opening, begun}
-use Rattle.monitor.specs.Laws.{place-of, FedAll}
+use Rattle.session.specs.Sets.{Holds}
+use Rattle.session.specs.Open.{opening, begun}
+use Rattle.session.specs.Session.{place-of}
+use Rattle.monitor.specs.Laws.{FedAll}
 use Rattle.run.specs.Run.{buffer-test, run-test, Line, At, RunTo, Runs}
 
 -- THE TESTS

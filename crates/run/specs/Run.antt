@@ -14,11 +14,11 @@ use Rattle.table.specs.declared.answer.Refusal.the-variants as refusal
 use Rattle.table.specs.declared.answer.Test.{Test}
 use Rattle.table.specs.declared.answer.Test.the-variants.{Passed, Refused}
 use Rattle.states.specs.In.{In}
-use Rattle.monitor.specs.declared.session.Flag.{Flag}
-use Rattle.monitor.specs.declared.session.Flag.the-variants as flag
+use Rattle.session.specs.declared.Flag.{Flag}
+use Rattle.session.specs.declared.Flag.the-variants as flag
 use Rattle.run.specs.declared.Ran.{Ran}
-use Rattle.monitor.specs.Open.{then, opening}
-use Rattle.monitor.specs.Laws.{place-of}
+use Rattle.session.specs.Open.{then, opening}
+use Rattle.session.specs.Session.{place-of}
 
 -- THE TESTS
 

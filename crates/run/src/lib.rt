@@ -1,9 +1,8 @@
 // A whole run over a trace, with the table, the trace and the results in the caller's memory.
 ghost use mathlib.Core.Path.{_≡_};
 ghost use Rattle.run.specs.Run.{traced, run-test, Runs};
-use monitor::session;
-use monitor::session::Flag;
-use monitor::session::MOST_EVENTS;
+use session::Flag;
+use session::MOST_EVENTS;
 use table::Refusal;
 use table::Test;
 

@@ -12,7 +12,7 @@ ghost use Rattle.run.specs.Trace.{Stepped, Recorded};
 use crate::column;
 use crate::lag;
 use crate::line;
-use monitor::session::Flag;
+use session::Flag;
 use table::Symbol;
 
 // Where a run stands: where the window of its words and inputs begins, and how many inputs the line has.

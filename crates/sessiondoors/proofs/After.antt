@@ -8,9 +8,9 @@ use lib.Seq.{length-take-le}
 use Rattle.table.specs.declared.answer.Test.{Test}
 use Rattle.table.specs.declared.answer.Test.the-variants.{Passed, Refused}
 use Rattle.table.specs.Refusals.{told}
-use Rattle.monitor.specs.declared.session.Session.{Session}
-use Rattle.monitor.specs.declared.session.Opened.{Opened}
-use Rattle.monitor.specs.Open.{zeros, padded, zero-session, begun, with-session, opening, opened}
+use Rattle.session.specs.declared.Session.{Session}
+use Rattle.session.specs.declared.Opened.{Opened}
+use Rattle.session.specs.Open.{zeros, padded, zero-session, begun, with-session, opening, opened}
 use Rattle.monitor.specs.Feed as feed
 use Rattle.monitor.specs.Feed.{FedTo}
 use Rattle.sessiondoors.specs.Layout.{session-bytes, session-in}

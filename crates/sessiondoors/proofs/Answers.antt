@@ -7,9 +7,9 @@ use lib.Dec.{leb}
 use lib.ListN.{length}
 use borrow.Author.Tests.{leb-true}
 use Rattle.table.proofs.Checks.{both}
-use Rattle.monitor.specs.declared.session.Opened.{Opened}
+use Rattle.session.specs.declared.Opened.{Opened}
 use Rattle.monitor.specs.declared.feed.Fed.{Fed}
-use Rattle.monitor.specs.Open.{opened}
+use Rattle.session.specs.Open.{opened}
 use Rattle.monitor.specs.Feed.{Feeds}
 use Rattle.lent.specs.Lent.{front, put-at}
 use Rattle.lent.proofs.Laws.{put-start}

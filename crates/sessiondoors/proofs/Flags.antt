@@ -5,15 +5,14 @@ use native.Mathlib.Omega.{arith}
 use Rattle.model.specs.Limits.{most-events}
 use Rattle.table.specs.declared.answer.Test.{Test}
 use Rattle.table.specs.declared.answer.Test.the-variants.{Passed, Refused}
-use Rattle.monitor.specs.declared.session.Session.{Session}
-use Rattle.monitor.specs.declared.session.Flag.{Flag}
-use Rattle.monitor.specs.declared.session.Flag.the-variants as flag
+use Rattle.session.specs.declared.Session.{Session}
+use Rattle.session.specs.declared.Flag.{Flag}
+use Rattle.session.specs.declared.Flag.the-variants as flag
 use Rattle.monitor.specs.declared.feed.Fed.{Fed}
-use Rattle.monitor.specs.Open.{opening, begun, zero-session, with-session, opened}
-use Rattle.monitor.specs.Session.{FlagFits}
+use Rattle.session.specs.Open.{opening, begun, zero-session, with-session, opened}
+use Rattle.session.specs.Session.{FlagFits, Proper}
 use Rattle.monitor.specs.Feed as feed
 use Rattle.monitor.specs.Feed.{Feeds}
-use Rattle.monitor.specs.Laws.{Proper}
 use Rattle.monitor.proofs.Laws.{fed-sound}
 use Rattle.figures.specs.Figures.{flag-word}
 use Rattle.figures.proofs.Laws.{none-fits, place-fits}

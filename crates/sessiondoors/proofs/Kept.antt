@@ -5,7 +5,7 @@ use Prim.Native.Nat.{ℕ, _+_, _≤_}
 use native.Mathlib.Omega.{arith}
 use lib.ListN.{length, getD, take, drop, length-append}
 use lib.Seq.{paste, take-length, length-take-le}
-use Rattle.monitor.specs.declared.session.Session.{Session}
+use Rattle.session.specs.declared.Session.{Session}
 use Rattle.monitor.specs.declared.feed.Fed.{Fed}
 use Rattle.monitor.specs.Feed as feed
 use Rattle.monitor.specs.Feed.{Feeds}

@@ -6,8 +6,8 @@ use native.Mathlib.Omega.{arith}
 use lib.ListN.{length, take, drop, length-append, length-drop}
 use native.Mathlib.Nat.{le-refl, mod-eq-of-lt}
 use lib.Seq.{take-take, length-take-le}
-use Rattle.monitor.specs.Laws.{Proper}
-use Rattle.monitor.specs.declared.session.Session.{Session}
+use Rattle.session.specs.Session.{Proper}
+use Rattle.session.specs.declared.Session.{Session}
 use Rattle.figures.specs.Figures.{flag-word}
 use Rattle.sessiondoors.specs.Layout.{session-words, session-bytes, words-of, bytes-of, session-in}
 use Rattle.lent.specs.Lent.{front, put-at}

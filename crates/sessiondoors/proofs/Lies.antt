@@ -5,7 +5,7 @@ use Prim.Native.Nat.{ℕ, _+_, _≤_}
 use native.Mathlib.Omega.{arith}
 use lib.ListN.{length, getD, take, drop, length-append, take-append-drop}
 use lib.Seq.{take-at, drop-at, getD-append-add, drop-cons, take-add, take-all, length-take-le}
-use Rattle.monitor.specs.declared.session.Session.{Session}
+use Rattle.session.specs.declared.Session.{Session}
 use Rattle.lent.specs.Lent.{front}
 use Rattle.figures.specs.Figures.{flag-word, flag-in}
 use Rattle.figures.proofs.Laws.{flag-kept, flag-back}

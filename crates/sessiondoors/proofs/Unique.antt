@@ -2,7 +2,7 @@
 use mathlib.Core.Path.{_≡_, refl, sym, ap, _∙_}
 use mathlib.Core.Bool.{Bool, true, false}
 use Rattle.table.proofs.Checks.{clash}
-use Rattle.monitor.specs.declared.session.Opened.{Opened}
+use Rattle.session.specs.declared.Opened.{Opened}
 use Rattle.monitor.specs.declared.feed.Fed.{Fed}
 use Rattle.monitor.proofs.Laws.{one-feed}
 use Rattle.lent.specs.Lent.{front}

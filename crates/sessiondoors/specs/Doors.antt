@@ -7,9 +7,9 @@ use Prim.Native.Nat.{ℕ}
 use lib.Dec.{leb}
 use lib.ListN.{length}
 use Rattle.table.specs.declared.answer.Test.{Test}
-use Rattle.monitor.specs.declared.session.Opened.{Opened}
+use Rattle.session.specs.declared.Opened.{Opened}
 use Rattle.monitor.specs.declared.feed.Fed.{Fed}
-use Rattle.monitor.specs.Open.{opened}
+use Rattle.session.specs.Open.{opened}
 use Rattle.monitor.specs.Feed.{Feeds}
 use Rattle.lent.specs.Lent.{front}
 use Rattle.figures.specs.Figures.{figures, told-test}

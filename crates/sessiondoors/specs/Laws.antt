@@ -4,8 +4,8 @@ use mathlib.Core.Bool.{Bool, true}
 use mathlib.Core.List.{List}
 use Prim.Native.Nat.{ℕ, _≤_}
 use lib.ListN.{length, getD}
-use Rattle.monitor.specs.declared.session.Session.{Session}
-use Rattle.monitor.specs.Open.{opened}
+use Rattle.session.specs.declared.Session.{Session}
+use Rattle.session.specs.Open.{opened}
 use Rattle.monitor.specs.Feed.{FedTo}
 use Rattle.lent.specs.Lent.{front}
 use Rattle.sessiondoors.specs.Layout.{session-words, session-bytes, words-of, bytes-of, session-in}

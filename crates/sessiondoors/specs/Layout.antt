@@ -2,7 +2,7 @@
 use mathlib.Core.List.{List, [], _∷_, _++_}
 use Prim.Native.Nat.{ℕ}
 use lib.ListN.{getD, take, drop}
-use Rattle.monitor.specs.declared.session.Session.{Session}
+use Rattle.session.specs.declared.Session.{Session}
 use Rattle.figures.specs.Figures.{flag-word, flag-in}
 
 abbrev pub session-words : ℕ

@@ -5,7 +5,7 @@ ghost use lib.ListN.{length, take};
 ghost use Rattle.lent.specs.Lent.{front, put-at};
 ghost use Rattle.figures.specs.Figures.{flag-word};
 ghost use Rattle.sessiondoors.specs.Layout.{session-words, session-bytes, words-of, bytes-of, session-in};
-use monitor::session::Session;
+use session::Session;
 
 pub(crate) const WORDS: usize = 267;
 

@@ -9,7 +9,6 @@ ghost use lib.Dec.{leb};
 ghost use Rattle.sessiondoors.specs.Layout.{session-words, session-bytes};
 ghost use Rattle.sessiondoors.specs.Doors.{test-size, test-results, Opens, Feeding};
 use monitor::feed;
-use monitor::session;
 use table::Test;
 
 mod layout;

@@ -1,5 +1,5 @@
 use Rattle.run.proofs.Passing.{run-passes}
-use Rattle.monitor.proofs.Openings.{small-opening, opening-passes}
+use Rattle.session.proofs.Openings.{small-opening, opening-passes}
 use Rattle.run.specs.Run.{refused, ran}
 use mathlib.Core.Path.{_≡_, refl, sym, _∙_, ap}
 use native.Mathlib.Omega.{arith}

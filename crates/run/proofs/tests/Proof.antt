@@ -1,4 +1,4 @@
-use Rattle.monitor.proofs.Openings.{small-opening}
+use Rattle.session.proofs.Openings.{small-opening}
 use Rattle.run.specs.Run.{run-test}
 use mathlib.Core.Path.{_≡_, refl, sym, _∙_, ap}
 use native.Mathlib.Omega.{arith}
@@ -8,7 +8,7 @@ use Rattle.run.proofs.tests.Tie as tie
 use Rattle.run.proofs.tests.Reads as reads
 use Rattle.run.proofs.tests.Lts as lts
 use Rattle.run.proofs.trace_tests.Reads as trace-tests-reads
-use Rattle.monitor.proofs.session.tested.Reads as tested-reads
+use Rattle.session.proofs.tested.Reads as tested-reads
 
 tested-requires : tie.Need-tested-requires
 tested-requires c κs = search needs

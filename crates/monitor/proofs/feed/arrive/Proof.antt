@@ -7,7 +7,7 @@ use Rattle.monitor.proofs.feed.arrive.Reads as reads
 use Rattle.monitor.proofs.feed.arrive.Lts as lts
 use Rattle.monitor.proofs.event.arrived.Reads as arrived-reads
 use Rattle.monitor.proofs.feed.moved_on.Reads as moved-on-reads
-use Rattle.monitor.proofs.sound.held_count.Reads as held-count-reads
+use Rattle.monitor.proofs.feed.held_count.Reads as held-count-reads
 
 -- src/feed.rt:65:16
 cast-most : tie.Need-cast-most

@@ -12,7 +12,7 @@ use Rattle.monitor.proofs.feed.feed.Reads as reads
 use Rattle.monitor.proofs.feed.feed.Lts as lts
 use Rattle.monitor.proofs.feed.arrive.Reads as arrive-reads
 use Rattle.monitor.proofs.feed.send.Reads as send-reads
-use Rattle.monitor.proofs.sound.sound.Reads as sound-reads
+use Rattle.session.proofs.sound.sound.Reads as sound-reads
 use Rattle.table.proofs.event.Reads as event-reads
 
 -- src/feed.rt:135:9

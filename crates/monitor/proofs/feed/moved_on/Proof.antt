@@ -1,4 +1,4 @@
-use Rattle.monitor.proofs.Passes.{finds}
+use Rattle.session.proofs.Laws.{finds-unless-empty}
 use mathlib.Core.Path.{_≡_, refl, sym, _∙_, ap}
 use native.Mathlib.Omega.{arith}
 use borrow.Author.Needs.{needs}
@@ -39,7 +39,7 @@ returns c =
       bytes = refl;
       events = refl;
       inputs-seen = refl;
-      flag = c .before .before .flagged .ensures _ (finds _ (search needs) (c .before .before .before .empty .ensures));
+      flag = c .before .before .flagged .ensures _ (finds-unless-empty _ _ (search needs) (c .before .before .before .empty .ensures));
     }
 
 pub moved-on-spec : {M : Type 1} → statement M

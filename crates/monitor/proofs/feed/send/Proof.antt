@@ -7,7 +7,7 @@ use Rattle.monitor.proofs.feed.send.Reads as reads
 use Rattle.monitor.proofs.feed.send.Lts as lts
 use Rattle.monitor.proofs.event.sent.Reads as sent-reads
 use Rattle.monitor.proofs.feed.moved_on.Reads as moved-on-reads
-use Rattle.monitor.proofs.sound.held_count.Reads as held-count-reads
+use Rattle.monitor.proofs.feed.held_count.Reads as held-count-reads
 
 -- src/feed.rt:78:9
 held-count-requires : tie.Need-held-count-requires

@@ -1,5 +1,5 @@
 use Rattle.monitor.proofs.Words.{raised-none, raised-more}
-use Rattle.monitor.specs.Sets.{Raised}
+use Rattle.monitor.specs.Sweep.{Raised}
 use Prim.Native.Nat.{ℕ, _-_, _+_, _*_, _≤_}
 use mathlib.Core.Path.{_≡_, refl}
 use native.Mathlib.Omega.{arith}

@@ -1,6 +1,6 @@
 use Rattle.monitor.proofs.Steps.{swept-more}
 use Rattle.monitor.proofs.Bridge.{swept-none}
-use Rattle.monitor.specs.Sets.{SweptFrom}
+use Rattle.monitor.specs.Sweep.{SweptFrom}
 use lib.ListN.{length, take}
 use Prim.Native.Nat.{_-_, _+_, _≤_}
 use mathlib.Core.Path.{_≡_, refl}

@@ -3,8 +3,8 @@ use Prim.Native.Nat.{ℕ, _+_, _-_, _*_, _≤_, _<_, min}
 use Rattle.run.proofs.Columns.{sorted-none}
 use Rattle.run.specs.Column.{Sorted}
 use Rattle.states.specs.Rows.{byteAt}
-use Rattle.monitor.specs.Open.{zeros}
-use Rattle.monitor.proofs.Padded.{length-zeros, zeros-at}
+use Rattle.session.specs.Open.{zeros}
+use Rattle.session.proofs.Padded.{length-zeros, zeros-at}
 use native.Mathlib.Omega.{arith}
 use borrow.Author.Needs.{needs}
 use Rattle.run.proofs.column.column_of.Statement.{statement}

@@ -4,8 +4,8 @@ use lib.ListN.{length}
 use mathlib.Core.Logic.{⊎-elim}
 use borrow.Author.Tests.{ltb-true, ltb-false}
 use Rattle.run.proofs.Running.{Following, following-none, following-more, stepped-room, run-end, run-flagged}
-use Rattle.monitor.specs.Open.{zeros}
-use Rattle.monitor.proofs.Padded.{length-zeros}
+use Rattle.session.specs.Open.{zeros}
+use Rattle.session.proofs.Padded.{length-zeros}
 use native.Mathlib.Omega.{arith}
 use borrow.Author.Needs.{needs}
 use Rattle.run.proofs.trace.followed.Statement.{statement}

@@ -1,0 +1,21 @@
+-- Every statement of specs/Laws.antt, proved, under one roof: other crates take the laws from here. Assumes nothing.
+use Rattle.session.specs.Laws.{FindsUnlessEmpty, OpeningPasses, OpenedSound, OpenedBegins, ZerosUnsound}
+use Rattle.session.proofs.Found
+use Rattle.session.proofs.Openings
+use Rattle.session.proofs.Begun
+
+pub finds-unless-empty : FindsUnlessEmpty
+finds-unless-empty = Found.finds-unless-empty
+
+-- Opening.
+pub opening-passes : OpeningPasses
+opening-passes = Openings.opening-passes
+
+pub opened-sound : OpenedSound
+opened-sound = Begun.opened-sound
+
+pub opened-begins : OpenedBegins
+opened-begins = Begun.opened-begins
+
+pub zeros-unsound : ZerosUnsound
+zeros-unsound = Begun.zeros-unsound

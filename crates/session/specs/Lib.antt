@@ -1,0 +1,4 @@
+pub mod Sets
+pub mod Session
+pub mod Open
+pub mod Laws
