@@ -1,24 +1,20 @@
 -- Where the code's words and the model's level equations meet: a swept set of words stands for a swept set of configurations.
 -- Assumes nothing.
-use mathlib.Core.Path.{_≡_, refl, sym, ap, _∙_}
+use mathlib.Core.Path.{_≡_, refl, _∙_}
 use mathlib.Core.List.{List}
-use mathlib.Core.Bool.{Bool, true, false, cond}
 use mathlib.Core.Logic.{_↔_, _⊎_, inl, inr, ⊎-elim}
-use mathlib.Core.Option.{Option, some, none}
+use mathlib.Core.Option.{none}
 use Prim.Native.Nat.{ℕ, zero, suc, _+_, _-_, _*_, _≤_, _<_}
 use native.Mathlib.Omega.{arith}
-use lib.Dec.{eqb}
-use lib.ListN.{length, getD}
-use borrow.Author.Tests.{eqb-true, eqb-false, ne-eqb}
-use Rattle.model.specs.Table.{Table, Valid, width, byte, entry}
-use Rattle.model.specs.Model.{box, Config, cfg, Set}
+use lib.ListN.{length}
+use Rattle.model.specs.Table.{Table, width}
+use Rattle.model.specs.Model.{box, Config, cfg}
 use Rattle.model.specs.Levels.{oldest, Taken, Lost, Swept}
 use Rattle.model.proofs.Flags.{lt-or-ge}
-use Rattle.states.specs.In.{In, Has}
-use Rattle.states.specs.Rows.{Leads}
+use Rattle.states.specs.In.{In}
 use Rattle.monitor.proofs.Entries.{of-leads, leads}
 use Rattle.session.specs.Sets.{InCell, Holds}
-use Rattle.monitor.specs.Sweep.{Beside, Took, Lowered, SweptFrom, Packed, Ready, Contained}
+use Rattle.monitor.specs.Sweep.{Took, Lowered, SweptFrom, Ready, Contained}
 
 -- equal words have the same states
 pub same-word : {x y : ℕ} (s : ℕ) → x ≡ y → In s x ↔ In s y

@@ -1,30 +1,27 @@
 -- A sound session, fed an input or an output. Assumes nothing.
 use mathlib.Core.Path.{_≡_, refl, sym, _∙_, ap}
 use mathlib.Core.List.{List, [], _∷_, _++_, append-nil}
-use mathlib.Core.Logic.{_↔_, _⊎_, inl, inr, ⊎-elim}
-use Prim.Native.Nat.{ℕ, zero, suc, _+_, _-_, _*_, _≤_, _<_, min}
+use mathlib.Core.Logic.{_⊎_, inl, inr, ⊎-elim}
+use Prim.Native.Nat.{ℕ, suc, _+_, _-_, _*_, _≤_, _<_, min}
 use native.Mathlib.Omega.{arith}
 use native.Mathlib.Nat.{mul-le-mul-right, add-zero}
 use lib.ListN.{length, getD, take, length-take, length-append, length-drop, List·getD-append}
 use lib.Seq.{getD-take, getD-drop, getD-append-seam}
-use Rattle.model.specs.Table.{Table, Valid, Bounded, width, byte, entry}
-use Rattle.model.specs.Model.{box, Event, input, output, event, inputs-of, newest, Config, cfg, Set, Fed}
-use Rattle.model.specs.Levels.{held-after, Moved}
+use Rattle.model.specs.Table.{Table, width, byte}
+use Rattle.model.specs.Model.{input, output, event, newest, Config, cfg}
 use Rattle.model.specs.Demands.{Fits}
 use Rattle.model.proofs.Flags.{lt-or-ge}
-use Rattle.model.proofs.Newest.{length-newest}
 use Rattle.model.proofs.Bytes.{input-byte, output-byte}
-use Rattle.table.specs.Bytes.{table-of, symbol-of}
+use Rattle.table.specs.Bytes.{symbol-of}
 use Rattle.table.specs.declared.answer.Symbol.{Symbol}
 use Rattle.table.specs.declared.answer.Symbol.the-variants.{Input, Output, Invalid}
 use Rattle.table.proofs.Laws.{given-means}
 use Rattle.session.specs.declared.Session.{Session}
 use Rattle.session.specs.Sets.{InCell, Holds}
-use Rattle.monitor.specs.Sweep.{SweptFrom, Shifted, SentOn, Packed, Ready, Contained}
+use Rattle.monitor.specs.Sweep.{Packed, Ready, Contained}
 use Rattle.session.specs.Session.{used, table-in, kept, line, Sound}
 use Rattle.monitor.specs.Event.{Arrival, Departure}
-use Rattle.monitor.specs.Feed.{Shows, Held, FlagAfter, MovedOn, FedTo}
-use Rattle.monitor.proofs.Bridge.{contained-after}
+use Rattle.monitor.specs.Feed.{Shows, MovedOn, FedTo}
 use Rattle.monitor.proofs.Moves.{shifted-contained, shifted-arrived, sent-contained, sent-sent, fed-words}
 use Rattle.monitor.proofs.Lines.{shows-first, shown-take}
 
@@ -95,19 +92,6 @@ module _ (s : Session) (sound : Sound s) (held-long : length (s .held) ≡ 32) w
         let d = length (line s ++ (a ∷ [])) - s .waiting in
         rw (getD-drop d (line s ++ (a ∷ [])) k 0) (valid-more (d + k) (omega (arith, length-drop d (line s ++ (a ∷ [])))))
 
-    pub arrived-contained : (n top : ℕ) (after held : List ℕ) → n ≡ kept s → Arrival (s .rows) (s .inputs + s .outputs) (s .waiting) (s .losses) n a top (s .set) (s .held) after held
-        → Contained (table-in s) (s .losses) top after
-    unfolding h′
-    arrived-contained n top after held en arr =
-        let et = arr .count in
-        let shown : Shows h′ held = arr .held-on .line (line s) (length-line ∙ sym en) shows-line in
-        let len : top ≡ length h′ = omega (arith, length-h′) in
-        let is-line : take top held ≡ h′ = rw len (shown-take h′ held (omega (arith, B≤)) shown) in
-        let le : top ≤ s .waiting = omega arith in
-        let all : (w : ℕ) → w ≤ kept s → w < s .waiting → w < top = λ w i j. omega arith in
-        contained-after (table-in s) (s .rows) (s .waiting) (s .losses) h′ top (ready h′ top len le valid-h′) (arr .raised) after
-        (shifted-contained (table-in s) (s .waiting) (s .losses) a (kept s) top symbol (sound .bounds) kept≤ le all (s .set) (arr .raised) contained (arr .shifted)) (rw is-line at (arr .swept))
-
     pub arrived-to : (n top : ℕ) (after held : List ℕ) (r : Session) → n ≡ kept s → Arrival (s .rows) (s .inputs + s .outputs) (s .waiting) (s .losses) n a top (s .set) (s .held) after held
         → MovedOn s after held (s .arrived + 1) r → FedTo s a r
     unfolding h′
@@ -147,14 +131,6 @@ module _ (s : Session) (sound : Sound s) (held-long : length (s .held) ≡ 32) w
   -- the line stays
   line-kept : newest (s .waiting) (line s ++ []) ≡ line s
   line-kept = let z : length (line s) - s .waiting ≡ 0 = omega (arith, length-line) in rw (append-nil, z)
-
-  pub departed-contained : (a n : ℕ) (after : List ℕ) → a < s .outputs → n ≡ kept s → Departure (s .rows) (s .inputs + s .outputs) (s .inputs + a) (s .losses) n (s .set) (s .held) after
-      → Contained (table-in s) (s .losses) n after
-  departed-contained a n after symbol en dep =
-      let sent = rw en at (dep .sent) in
-      let sw = rw en at (dep .swept) in
-      rw en (contained-after (table-in s) (s .rows) (s .waiting) (s .losses) (line s) (kept s) (ready (line s) (kept s) (sym length-line) kept≤ line-valid) (dep .followed) after
-      (sent-contained (table-in s) (s .rows) (s .waiting) (s .losses) a (kept s) (sound .table .valid) packed (sound .bounds) symbol kept≤ (s .set) (dep .followed) contained sent) sw)
 
   pub sent-to : (a n : ℕ) (after : List ℕ) (r : Session) → a < s .outputs → n ≡ kept s → Departure (s .rows) (s .inputs + s .outputs) (s .inputs + a) (s .losses) n (s .set) (s .held) after
       → MovedOn s after (s .held) (s .arrived) r → FedTo s (128 + a) r

@@ -1,15 +1,15 @@
 -- The held inputs, with one more. Assumes nothing.
-use mathlib.Core.Path.{_≡_, refl, sym, _∙_, ap}
+use mathlib.Core.Path.{_≡_, sym, _∙_}
 use mathlib.Core.List.{List, [], _∷_, _++_}
-use mathlib.Core.Logic.{_≢_, _⊎_, ⊎-elim}
-use Prim.Native.Nat.{ℕ, zero, suc, _+_, _-_, _≤_, _<_}
+use mathlib.Core.Logic.{_≢_, ⊎-elim}
+use Prim.Native.Nat.{ℕ, _+_, _-_, _≤_, _<_}
 use native.Mathlib.Omega.{arith}
 use native.Mathlib.Decide.{ℕ-discrete}
 use lib.ListN.{length, getD, set, take, length-set, length-append, length-take, List·getD-append, List·getD-eq-default}
 use lib.Seq.{getD-append-seam, getD-drop, getD-set-same, getD-set-other, getD-take, ext-getD}
 use Rattle.model.specs.Model.{newest}
 use Rattle.model.proofs.Flags.{lt-or-ge}
-use Rattle.monitor.specs.Feed.{Shows, Forgot, Held}
+use Rattle.monitor.specs.Feed.{Shows, Forgot}
 
 -- the list with a after it
 module _ (l : List ℕ) (a : ℕ) where

@@ -1,23 +1,21 @@
 -- The event, and then takes and losses, on words: what they stand for is the fed set. Assumes nothing.
-use mathlib.Core.Path.{_≡_, refl, sym, ap, _∙_}
-use mathlib.Core.List.{List, [], _∷_, _++_, append-nil}
-use mathlib.Core.Logic.{_↔_, _⊎_, inl, inr, ⊎-elim}
+use mathlib.Core.Path.{_≡_, refl, ap, _∙_}
+use mathlib.Core.List.{List}
+use mathlib.Core.Logic.{_↔_, inl, inr, ⊎-elim}
 use mathlib.Core.Option.{some}
 use Prim.Native.Nat.{ℕ, zero, suc, _+_, _-_, _*_, _≤_, _<_}
 use native.Mathlib.Omega.{arith}
 use lib.ListN.{length, getD}
 use Rattle.model.specs.Table.{Table, Valid, Bounded, width, entry}
-use Rattle.model.specs.Model.{Device, box, Event, input, output, newest, Config, cfg, Set, Fed}
-use Rattle.model.specs.Levels.{oldest, held-after, Inside, Arrived, Sent, Moved, Taken, Lost, Swept}
+use Rattle.model.specs.Model.{Device, box, Event, newest, Config, cfg, Set, Fed}
+use Rattle.model.specs.Levels.{oldest, held-after, Arrived, Sent, Moved, Swept}
 use Rattle.model.proofs.Flags.{lt-or-ge}
 use Rattle.model.proofs.Newest.{oldest-newest}
 use Rattle.model.proofs.Demands.{level-by-level}
-use Rattle.states.specs.In.{In, Has}
-use Rattle.states.specs.Rows.{Leads}
 use Rattle.session.specs.Sets.{InCell, Holds}
-use Rattle.monitor.specs.Sweep.{SweptFrom, Shifted, Followed, SentOn, Packed, Ready, Contained}
+use Rattle.monitor.specs.Sweep.{SweptFrom, Shifted, SentOn, Packed, Ready, Contained}
 use Rattle.states.proofs.Member.{not-in-zero}
-use Rattle.monitor.proofs.Bridge.{same-word, contained-after, words-swept}
+use Rattle.monitor.proofs.Bridge.{same-word, words-swept}
 use Rattle.monitor.proofs.Entries.{of-leads, leads}
 
 -- SWEPT SETS, READ ANOTHER WAY

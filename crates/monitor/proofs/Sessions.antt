@@ -1,18 +1,17 @@
 -- Fed sessions: one answer, sound again, and the plausible set after any trace. Assumes nothing.
 use mathlib.Core.Path.{_≡_, refl, sym, _∙_, ap, subst}
 use mathlib.Core.List.{List, [], _∷_, _++_, append-nil}
-use mathlib.Core.Logic.{_↔_, _⊎_, inl, inr, ⊎-elim}
-use mathlib.Core.Option.{Option, some, none}
-use Prim.Native.Nat.{ℕ, zero, suc, _+_, _-_, _*_, _/_, _%_, _≤_, _<_, min}
+use mathlib.Core.Logic.{_↔_, _⊎_, inl, inr}
+use Prim.Native.Nat.{ℕ, _+_, _-_, _*_, _/_, _%_, _≤_, _<_, min}
 use native.Mathlib.Omega.{arith}
-use lib.ListN.{length, getD, take, length-take, length-append, length-drop, List·getD-eq-default}
+use lib.ListN.{length, getD, take, length-append, length-drop, List·getD-eq-default}
 use lib.Seq.{append-snoc, getD-drop}
 use Rattle.model.specs.Limits.{most-events}
-use Rattle.model.specs.Table.{Table, Valid, Bounded}
-use Rattle.model.specs.Model.{Device, box, Event, input, output, event, events, inputs-of, newest, Config, cfg, Set, Plausible, Fed, Empty, Alive, FlagIs}
+use Rattle.model.specs.Table.{Table}
+use Rattle.model.specs.Model.{box, Event, input, output, event, events, inputs-of, newest, Config, cfg, Fed, FlagIs}
 use Rattle.model.specs.Levels.{held-after}
-use Rattle.model.specs.Demands.{Carries, Fits, Slack, Later}
-use Rattle.model.proofs.Flags.{lt-or-ge, flag-none, flag-falls, flag-stays}
+use Rattle.model.specs.Demands.{Carries, Fits}
+use Rattle.model.proofs.Flags.{flag-none, flag-falls, flag-stays}
 use Rattle.model.proofs.Bytes.{events-append, events-length}
 use Rattle.model.proofs.Newest.{inputs-append}
 use Rattle.model.proofs.Contained.{fed-contained}
@@ -30,8 +29,8 @@ use Rattle.session.specs.Sets.{Holds}
 use Rattle.session.specs.Session.{table-in, kept, line, FlagFits, Sound, Proper, place-of}
 use Rattle.session.specs.Open.{opening, begun}
 use Rattle.session.proofs.Laws.{opened-sound, opened-begins}
-use Rattle.monitor.specs.Feed.{Shows, FlagAfter, stays, clear, falls, FedTo, passed, ValidEvent, Feeds, unsound, full, invalid, fed}
-use Rattle.monitor.specs.Laws.{OneFeed, NotRefused, FedSound, Follows, FedAll, none-left, then, PlausibleAfterFeeding, KeptBy, SessionsAllowMore}
+use Rattle.monitor.specs.Feed.{FlagAfter, stays, clear, falls, FedTo, passed, ValidEvent, Feeds, unsound, full, invalid, fed}
+use Rattle.monitor.specs.Laws.{OneFeed, NotRefused, FedSound, Follows, FedAll, none-left, then, PlausibleAfterFeeding, SessionsAllowMore}
 use Rattle.monitor.proofs.Lines.{shows-one, shown-take}
 use Rattle.monitor.proofs.Feeding.{length-line, line-valid, fit, valid-more, event-cases}
 

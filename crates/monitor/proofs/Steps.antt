@@ -1,8 +1,8 @@
 -- What the code does to a level, read as a step of a sweep or of an event. Assumes nothing.
-use mathlib.Core.Path.{_≡_, refl, sym, _∙_, ap}
+use mathlib.Core.Path.{_≡_, refl, sym, _∙_}
 use mathlib.Core.List.{List}
-use mathlib.Core.Logic.{_↔_, _⊎_, inl, inr, ⊎-elim}
-use Prim.Native.Nat.{ℕ, zero, suc, _+_, _-_, _*_, _≤_, _<_}
+use mathlib.Core.Logic.{_↔_, inl, inr, ⊎-elim}
+use Prim.Native.Nat.{ℕ, suc, _+_, _-_, _*_, _≤_, _<_}
 use native.Mathlib.Omega.{arith}
 use native.Mathlib.Numerals.{add-one}
 use lib.ListN.{length, getD, take, length-take}
@@ -12,7 +12,7 @@ use Rattle.model.proofs.Flags.{lt-or-ge}
 use Rattle.states.specs.In.{In, Has, Any}
 use Rattle.states.specs.Rows.{Image, Sent}
 use Rattle.session.specs.Sets.{InCell}
-use Rattle.monitor.specs.Sweep.{Level, Stored, LoweredTo, Beside, Took, Lowered, Followed, SentLevel, SentOn, SweptFrom}
+use Rattle.monitor.specs.Sweep.{Level, Stored, LoweredTo, Took, Lowered, Followed, SentLevel, SentOn, SweptFrom}
 use Rattle.monitor.proofs.Bridge.{same-word, swept-lower}
 
 -- a level's words are those of the set

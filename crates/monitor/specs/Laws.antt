@@ -1,7 +1,6 @@
 -- What is shown of feeding, each under one sentence. proofs/Laws.antt proves them all. Assumes nothing.
 use mathlib.Core.Path.{_≡_}
 use mathlib.Core.List.{List, [], _∷_}
-use mathlib.Core.Logic.{_↔_}
 use Prim.Native.Nat.{ℕ, _<_}
 use lib.ListN.{length}
 use Rattle.model.specs.Limits.{most-events}

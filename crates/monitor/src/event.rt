@@ -1,7 +1,7 @@
 // What one event does to a set and its line, in place: the event first, and then any number of takes and losses.
 ghost use mathlib.Core.Path.{_≡_};
-ghost use Prim.Native.Nat.{ℕ, _+_, _≤_, _<_, min};
-ghost use lib.ListN.{length, take};
+ghost use Prim.Native.Nat.{_+_, _≤_, _<_, min};
+ghost use lib.ListN.{length};
 ghost use Rattle.monitor.specs.Feed.{Forgot, Held};
 ghost use Rattle.monitor.specs.Event.{Arrival, Departure};
 use crate::sweep;

@@ -1,9 +1,7 @@
 // Feeding a session one event.
 ghost use mathlib.Core.Path.{_≡_};
-ghost use Prim.Native.Nat.{ℕ, _+_, _≤_, _<_, min};
+ghost use Prim.Native.Nat.{ℕ, _+_, _<_, min};
 ghost use mathlib.Core.List.{List};
-ghost use lib.ListN.{length, take};
-ghost use Rattle.model.specs.Model.{input, output};
 ghost use Rattle.session.specs.Session.{Sound};
 ghost use Rattle.session.specs.Sets.{Finds};
 ghost use Rattle.monitor.specs.Feed.{FlagAfter, MovedOn, FedTo, Feeds};

@@ -1,25 +1,22 @@
 -- Opened sessions, and one of zeros. Assumes nothing.
-use mathlib.Core.Path.{_≡_, refl, sym, _∙_, ap}
-use mathlib.Core.List.{List, [], _∷_, _++_}
-use mathlib.Core.Logic.{_↔_, _≢_, _⊎_, inl, inr, ⊎-elim}
-use Prim.Native.Nat.{ℕ, zero, suc, _+_, _-_, _*_, _≤_, _<_, _^_, min}
+use mathlib.Core.Path.{_≡_, refl, _∙_, ap}
+use mathlib.Core.List.{List}
+use mathlib.Core.Logic.{_↔_, _≢_, ⊎-elim}
+use Prim.Native.Nat.{ℕ, _+_, _-_, _*_, _≤_, _<_, min}
 use native.Mathlib.Omega.{arith}
 use native.Mathlib.Nat.{mul-le-mul}
-use native.Mathlib.Decide.{ℕ-discrete}
-use lib.ListN.{length, getD, take, drop, set, length-append, length-take, length-drop, length-set, replicate, length-replicate, getD-replicate, List·getD-append, List·getD-eq-default}
-use lib.Seq.{getD-set-same, getD-set-other, getD-append-add, getD-drop, take-at, take-all, take-length, take-append-le}
-use Rattle.model.specs.Table.{Table, Valid, Bounded}
-use Rattle.model.specs.Model.{box, Config, cfg}
-use Rattle.model.specs.Demands.{Fits}
+use lib.ListN.{length, getD, take, drop, set, length-set}
+use lib.Seq.{getD-set-same, getD-set-other, getD-append-add, getD-drop, take-at, take-all}
+use Rattle.model.specs.Table.{Valid}
+use Rattle.model.specs.Model.{Config, cfg}
 use Rattle.model.proofs.Flags.{lt-or-ge}
 use Rattle.table.specs.Bytes.{table-of}
 use Rattle.table.specs.declared.answer.Test.the-variants.{Passed}
 use Rattle.states.specs.In.{In}
 use Rattle.states.proofs.Member.{not-in-zero, in-pow}
-use Rattle.session.specs.declared.Session.{Session}
 use Rattle.session.specs.Sets.{Holds}
 use Rattle.session.specs.declared.Flag.the-variants as flag
-use Rattle.session.specs.Session.{used, table-in, kept, line, ZeroFrom, Sound}
+use Rattle.session.specs.Session.{ZeroFrom, Sound}
 use Rattle.session.specs.Open.{zeros, padded, opening, begun, zero-session}
 use Rattle.session.specs.Laws.{OpenedSound, OpenedBegins, ZerosUnsound}
 use Rattle.session.proofs.Padded.{length-zeros, zeros-at}

@@ -1,32 +1,21 @@
 -- The clauses of soundness, decided one by one. Assumes nothing.
-use mathlib.Core.Path.{_≡_, refl, sym, _∙_, ap}
+use mathlib.Core.Path.{_≡_, refl}
 use mathlib.Core.Bool.{Bool, true, false, _&&_}
 use mathlib.Core.List.{List}
-use mathlib.Core.Logic.{_↔_, _≢_, _⊎_, inl, inr, ⊎-elim}
-use mathlib.Core.Option.{some}
-use Prim.Native.Nat.{ℕ, zero, suc, _+_, _-_, _*_, _/_, _%_, _≤_, _<_, _^_}
+use mathlib.Core.Logic.{_≢_}
+use Prim.Native.Nat.{ℕ, _+_, _≤_, _<_}
 use native.Mathlib.Omega.{arith}
-use native.Mathlib.Nat.{mul-le-mul, mul-le-mul-right}
 use native.Mathlib.Decide.{ℕ-discrete}
 use lib.Dec.{leb, ltb}
-use lib.ListN.{length, getD, take, length-take}
-use lib.Seq.{getD-take}
+use lib.ListN.{getD}
 use borrow.Author.Tests.{leb-true, leb-false, ltb-true, ltb-false}
-use Rattle.model.specs.Limits.{most-states, most-inputs, most-outputs, most-events, UpTo}
-use Rattle.model.specs.Table.{Table, Valid, Bounded, width, byte, entry}
-use Rattle.model.specs.Model.{Config, cfg}
-use Rattle.model.specs.Demands.{Fits}
-use Rattle.table.specs.Bytes.{table-of}
-use Rattle.table.specs.Tests.{counts-test, entries-test}
-use Rattle.table.specs.declared.answer.Test.the-variants.{Passed}
-use Rattle.table.proofs.Laws.{counts-pass, entries-pass}
+use Rattle.model.specs.Limits.{most-events}
+use Rattle.model.specs.Table.{Bounded}
+use Rattle.model.specs.Model.{Config}
 use Rattle.states.specs.Decides.{Decides}
-use Rattle.states.specs.In.{In}
-use Rattle.states.proofs.Answers.{said, denied, left}
-use Rattle.states.proofs.Member.{not-in-zero}
-use Rattle.states.proofs.Same.{some-in}
+use Rattle.states.proofs.Answers.{denied, left}
 use Rattle.session.specs.Sets.{Holds, Finds}
-use Rattle.session.specs.Session.{ZeroFrom, BelowIn, CellFits, SetFits, TableSound, HeldSound, FlagFits, Sound, kept}
+use Rattle.session.specs.Session.{SetFits, TableSound, HeldSound, FlagFits, Sound, kept}
 use Rattle.session.specs.declared.Session.{Session}
 
 -- two clauses

@@ -1,16 +1,15 @@
 -- Whether a set holds anything, told from its words. Assumes nothing.
 use mathlib.Core.Path.{_≡_, refl, sym}
-use mathlib.Core.Bool.{Bool, true, false, not}
+use mathlib.Core.Bool.{true, false}
 use mathlib.Core.List.{List}
 use mathlib.Core.Logic.{⊎-elim}
 use Prim.Native.Nat.{ℕ, _+_, _*_, _/_, _%_}
 use native.Mathlib.Omega.{arith}
 use lib.ListN.{length}
 use Rattle.model.specs.Model.{Config, cfg}
-use Rattle.states.specs.Decides.{Decides}
 use Rattle.states.specs.In.{AnyOf, Empty}
 use Rattle.states.proofs.Same.{none-or-any}
-use Rattle.session.specs.Sets.{Holds, Finds}
+use Rattle.session.specs.Sets.{Holds}
 use Rattle.session.specs.Laws.{FindsUnlessEmpty}
 
 clash : {A : Type 0} → true ≡ false → A

@@ -1,12 +1,11 @@
 -- What the tests of an opening say of table and bounds. Assumes nothing.
-use mathlib.Core.Path.{_≡_, refl, sym, _∙_, ap}
+use mathlib.Core.Path.{_≡_, refl}
 use mathlib.Core.List.{List}
 use mathlib.Core.Logic.{_↔_}
 use Prim.Native.Nat.{ℕ, _≤_}
 use native.Mathlib.Omega.{arith}
 use lib.ListN.{length}
-use Rattle.model.specs.Limits.{most-states, most-inputs, most-outputs, UpTo}
-use Rattle.model.specs.Table.{Table, Valid, Bounded}
+use Rattle.model.specs.Table.{Valid, Bounded}
 use Rattle.table.specs.Bytes.{table-of}
 use Rattle.table.specs.Tests.{counts-test, length-test, entries-test, bounds-test}
 use Rattle.table.specs.declared.answer.Test.{Test}

@@ -1,12 +1,11 @@
 -- Bytes copied to the front of zeros. Assumes nothing.
-use mathlib.Core.Path.{_≡_, refl, sym, _∙_}
-use mathlib.Core.List.{List, [], _++_}
-use mathlib.Core.Logic.{_⊎_, ⊎-elim}
+use mathlib.Core.Path.{_≡_}
+use mathlib.Core.List.{List, _++_}
+use mathlib.Core.Logic.{⊎-elim}
 use Prim.Native.Nat.{ℕ, _+_, _≤_, _<_}
 use native.Mathlib.Nat.{zero-add, le-refl}
 use native.Mathlib.Numerals.{add-one}
-use native.Mathlib.Omega.{arith}
-use lib.ListN.{length, getD, take, drop, set, length-replicate, getD-replicate, List·getD-eq-default, drop-of-length-le, length-append, length-take, length-drop}
+use lib.ListN.{length, getD, take, drop, set, length-replicate, getD-replicate, List·getD-eq-default, drop-of-length-le}
 use lib.Seq.{paste-suc, take-all, take-length}
 use Rattle.model.proofs.Flags.{lt-or-ge}
 use Rattle.session.specs.Open.{zeros, padded}

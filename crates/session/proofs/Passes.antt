@@ -1,10 +1,10 @@
 -- Tests that look at every place and leave nowhere: what is gathered on the way decides. Assumes nothing.
-use mathlib.Core.Path.{_≡_, refl, sym, _∙_, ap}
+use mathlib.Core.Path.{_≡_, refl, sym, _∙_}
 use mathlib.Core.Bool.{Bool, true, false, cond, _&&_}
 use mathlib.Core.List.{List}
 use mathlib.Core.Logic.{_↔_, _≢_, _⊎_, inl, inr, ⊎-elim}
 use mathlib.Core.Option.{Option, some, none}
-use Prim.Native.Nat.{ℕ, zero, suc, _+_, _-_, _*_, _/_, _%_, _≤_, _<_, min}
+use Prim.Native.Nat.{ℕ, zero, suc, _+_, _*_, _/_, _%_, _≤_, _<_, min}
 use native.Mathlib.Omega.{arith}
 use native.Mathlib.Nat.{mod-lt, div-add-mod', div-lt-iff-lt-mul, mul-le-mul}
 use native.Mathlib.Decide.{ℕ-discrete}
@@ -14,20 +14,20 @@ use lib.Dec.{eqb, leb, ltb}
 use lib.ListN.{length, getD, take, length-take}
 use lib.Seq.{getD-take}
 use borrow.Author.Tests.{eqb-true, eqb-false, ltb-true, ltb-false}
-use Rattle.model.specs.Table.{Table, Valid, width, byte, entry}
-use Rattle.model.specs.Model.{Config, cfg}
+use Rattle.model.specs.Table.{Valid, byte, entry}
+use Rattle.model.specs.Model.{cfg}
 use Rattle.model.specs.Demands.{Fits}
 use Rattle.table.specs.Bytes.{table-of}
 use Rattle.table.specs.Tests.{counts-test}
 use Rattle.table.specs.declared.answer.Test.the-variants.{Passed}
 use Rattle.table.proofs.Laws.{counts-pass}
 use Rattle.states.specs.Decides.{Decides}
-use Rattle.states.specs.In.{In, Has}
-use Rattle.states.proofs.Answers.{said, denied, left}
+use Rattle.states.specs.In.{Has}
+use Rattle.states.proofs.Answers.{left}
 use Rattle.states.proofs.Member.{in-or, not-in-zero}
 use Rattle.states.proofs.Same.{none-in, zero-none}
 use Rattle.states.proofs.Words.{getD-within}
-use Rattle.session.specs.Sets.{Holds, InCell}
+use Rattle.session.specs.Sets.{InCell}
 use Rattle.session.specs.Session.{ZeroFrom, CellFits, SetFits, TableSound}
 use Rattle.session.proofs.Clauses.{both-decide, le-decides}
 

@@ -2,7 +2,6 @@
 use mathlib.Core.List.{List, _++_}
 use Prim.Native.Nat.{ℕ}
 use lib.ListN.{length, take, drop, set, replicate}
-use Rattle.model.specs.Limits.{most-states, most-inputs, most-outputs}
 use Rattle.table.specs.Bytes.{table-of}
 use Rattle.table.specs.Tests.{counts-test, length-test, entries-test, bounds-test}
 use Rattle.table.specs.declared.answer.Test.{Test}

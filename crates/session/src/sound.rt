@@ -3,7 +3,7 @@ ghost use mathlib.Core.Path.{_≡_};
 ghost use mathlib.Core.Bool.{_&&_};
 ghost use mathlib.Core.Logic.{_⊎_, _↔_};
 ghost use Prim.Native.Nat.{ℕ, _*_, _+_, _≤_, _<_, min};
-ghost use lib.ListN.{length, getD, take};
+ghost use lib.ListN.{length, getD};
 ghost use Rattle.model.specs.Table.{Bounded};
 ghost use Rattle.states.specs.Decides.{Decides};
 ghost use Rattle.states.specs.In.{Has};

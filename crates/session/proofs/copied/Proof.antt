@@ -1,10 +1,10 @@
 use Rattle.session.proofs.Padded.{length-zeros, copy-more, copy-all, copy-full}
 use Rattle.session.specs.Open.{zeros}
 use borrow.Author.Tests.{ltb-true, ltb-false}
-use lib.ListN.{length, getD, take, drop}
-use Prim.Native.Nat.{ℕ, _≤_, _<_, _+_, _-_}
+use lib.ListN.{length, take, drop}
+use Prim.Native.Nat.{_≤_, _<_, _-_}
 use mathlib.Core.List.{_++_}
-use mathlib.Core.Path.{_≡_, refl, sym, _∙_, ap}
+use mathlib.Core.Path.{_≡_, refl, _∙_}
 use native.Mathlib.Omega.{arith}
 use borrow.Author.Needs.{needs}
 use Rattle.session.proofs.copied.Statement.{statement}

@@ -1,5 +1,4 @@
 use Rattle.session.specs.Open.{begun, zeros}
-use native.Mathlib.Omega.{arith}
 use borrow.Author.Needs.{needs}
 use Rattle.session.proofs.fresh.Statement.{statement}
 use Rattle.session.proofs.fresh.Tie as tie

@@ -1,6 +1,6 @@
 use Rattle.session.proofs.Openings.{small-counts}
 use Rattle.session.specs.Open.{opening}
-use mathlib.Core.Path.{_≡_, sym, _∙_}
+use mathlib.Core.Path.{sym, _∙_}
 use native.Mathlib.Omega.{arith}
 use borrow.Author.Needs.{needs}
 use Rattle.session.proofs.tested.Statement.{statement}

@@ -1,7 +1,5 @@
 use Rattle.session.specs.Open.{zero-session, zeros}
 use mathlib.Core.Path.{refl}
-use native.Mathlib.Omega.{arith}
-use borrow.Author.Needs.{needs}
 use Rattle.session.proofs.zeros.Statement.{statement}
 use Rattle.session.proofs.zeros.Tie as tie
 use Rattle.session.proofs.zeros.Reads as reads

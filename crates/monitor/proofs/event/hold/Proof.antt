@@ -1,7 +1,6 @@
 use Rattle.monitor.proofs.Lines.{held-room, held-full}
-use lib.ListN.{length, getD, take, length-set}
-use Prim.Native.Nat.{ℕ, _+_, _-_, _*_, _≤_, _<_, min}
-use mathlib.Core.Path.{_≡_, refl, sym, _∙_, ap}
+use lib.ListN.{length-set}
+use mathlib.Core.Path.{refl}
 use native.Mathlib.Omega.{arith}
 use borrow.Author.Needs.{needs}
 use Rattle.monitor.proofs.event.hold.Statement.{statement}

@@ -1,5 +1,4 @@
 use Rattle.monitor.proofs.Feeding.{arrived-to}
-use native.Mathlib.Omega.{arith}
 use borrow.Author.Needs.{needs}
 use Rattle.monitor.proofs.feed.arrive.Statement.{statement}
 use Rattle.monitor.proofs.feed.arrive.Tie as tie

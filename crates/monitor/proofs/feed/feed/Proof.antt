@@ -1,9 +1,7 @@
-use Rattle.monitor.specs.Feed.{FedTo}
 use Rattle.monitor.proofs.Feeding.{input-means, output-means}
 use Rattle.monitor.specs.Feed.{unsound, full, invalid, fed}
 use borrow.Author.Tests.{not-true, not-false}
-use Prim.Native.Nat.{ℕ, _+_, _-_, _*_, _≤_, _<_, min}
-use mathlib.Core.Path.{_≡_, refl, sym, _∙_, ap}
+use mathlib.Core.Path.{sym, _∙_}
 use native.Mathlib.Omega.{arith}
 use borrow.Author.Needs.{needs}
 use Rattle.monitor.proofs.feed.feed.Statement.{statement}

@@ -1,5 +1,4 @@
 use Rattle.monitor.specs.Feed.{stays, clear, falls}
-use native.Mathlib.Omega.{arith}
 use borrow.Author.Needs.{needs}
 use Rattle.monitor.proofs.feed.flagged.Statement.{statement}
 use Rattle.monitor.proofs.feed.flagged.Tie as tie

@@ -1,6 +1,5 @@
 use Rattle.session.proofs.Laws.{finds-unless-empty}
-use mathlib.Core.Path.{_≡_, refl, sym, _∙_, ap}
-use native.Mathlib.Omega.{arith}
+use mathlib.Core.Path.{refl}
 use borrow.Author.Needs.{needs}
 use Rattle.monitor.proofs.feed.moved_on.Statement.{statement}
 use Rattle.monitor.proofs.feed.moved_on.Tie as tie

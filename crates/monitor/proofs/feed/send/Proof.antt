@@ -1,5 +1,4 @@
 use Rattle.monitor.proofs.Feeding.{sent-to}
-use native.Mathlib.Omega.{arith}
 use borrow.Author.Needs.{needs}
 use Rattle.monitor.proofs.feed.send.Statement.{statement}
 use Rattle.monitor.proofs.feed.send.Tie as tie

@@ -1,7 +1,7 @@
 use Rattle.monitor.proofs.Words.{raised-none, raised-more}
 use Rattle.monitor.specs.Sweep.{Raised}
-use Prim.Native.Nat.{ℕ, _-_, _+_, _*_, _≤_}
-use mathlib.Core.Path.{_≡_, refl}
+use Prim.Native.Nat.{_-_, _+_, _*_, _≤_}
+use mathlib.Core.Path.{_≡_}
 use native.Mathlib.Omega.{arith}
 use borrow.Author.Needs.{needs}
 use Rattle.monitor.proofs.sweep.raise.Statement.{statement}

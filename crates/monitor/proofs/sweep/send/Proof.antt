@@ -1,5 +1,4 @@
 use Rattle.monitor.proofs.Steps.{Sending, sending-none, sending-more, sending-all}
-use lib.ListN.{length}
 use Prim.Native.Nat.{_-_, _+_, _≤_}
 use mathlib.Core.Path.{_≡_}
 use native.Mathlib.Omega.{arith}

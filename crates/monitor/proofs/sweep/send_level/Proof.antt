@@ -1,5 +1,4 @@
 use Rattle.monitor.proofs.Steps.{sent-level}
-use native.Mathlib.Omega.{arith}
 use borrow.Author.Needs.{needs}
 use Rattle.monitor.proofs.sweep.send_level.Statement.{statement}
 use Rattle.monitor.proofs.sweep.send_level.Tie as tie

@@ -1,8 +1,5 @@
 use lib.ListN.{getD-replicate}
 use Rattle.monitor.proofs.Words.{shifted}
-use lib.ListN.{getD}
-use Prim.Native.Nat.{ℕ, _<_}
-use mathlib.Core.Path.{_≡_, refl}
 use native.Mathlib.Omega.{arith}
 use borrow.Author.Needs.{needs}
 use Rattle.monitor.proofs.sweep.shift.Statement.{statement}

@@ -2,7 +2,7 @@ use Rattle.monitor.proofs.Steps.{swept-more}
 use Rattle.monitor.proofs.Bridge.{swept-none}
 use Rattle.monitor.specs.Sweep.{SweptFrom}
 use lib.ListN.{length, take}
-use Prim.Native.Nat.{_-_, _+_, _≤_}
+use Prim.Native.Nat.{_≤_}
 use mathlib.Core.Path.{_≡_, refl}
 use native.Mathlib.Omega.{arith}
 use borrow.Author.Needs.{needs}

@@ -1,9 +1,8 @@
 use Rattle.session.proofs.Clauses.{below-more}
 use borrow.Author.Tests.{ltb-true, ltb-false}
 use Rattle.states.proofs.Answers.{said, denied}
-use lib.ListN.{length, getD, take}
-use Prim.Native.Nat.{ℕ, _+_, _-_, _*_, _/_, _%_, _≤_, _<_}
-use mathlib.Core.Path.{_≡_, refl, sym, _∙_, ap}
+use lib.ListN.{length, getD}
+use Prim.Native.Nat.{ℕ, _-_, _≤_, _<_}
 use native.Mathlib.Omega.{arith}
 use borrow.Author.Needs.{needs}
 use Rattle.session.proofs.sound.below.Statement.{statement}

@@ -1,7 +1,6 @@
 use mathlib.Core.Path.{sym, _∙_}
 use Rattle.table.proofs.Laws.{bounds-pass}
 use Rattle.states.proofs.Answers.{left}
-use native.Mathlib.Omega.{arith}
 use borrow.Author.Needs.{needs}
 use Rattle.session.proofs.sound.bounds_sound.Statement.{statement}
 use Rattle.session.proofs.sound.bounds_sound.Tie as tie

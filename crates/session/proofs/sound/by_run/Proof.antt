@@ -1,12 +1,11 @@
 use lib.ListN.{getD-replicate}
 use Rattle.session.proofs.Passes.{by-run-more}
-use Rattle.states.specs.In.{In, Has}
+use Rattle.states.specs.In.{Has}
 use Rattle.states.proofs.Member.{not-in-zero}
 use Rattle.session.specs.Sets.{InCell}
-use mathlib.Core.Logic.{_⊎_, _↔_}
-use Prim.Native.Nat.{ℕ, _+_, _-_, _*_, _/_, _%_, _≤_, _<_}
-use lib.ListN.{length, getD, take}
-use mathlib.Core.Path.{_≡_, refl, sym, _∙_, ap}
+use mathlib.Core.Logic.{_↔_}
+use Prim.Native.Nat.{ℕ, _+_, _-_, _≤_, _<_}
+use mathlib.Core.Path.{_≡_}
 use native.Mathlib.Omega.{arith}
 use borrow.Author.Needs.{needs}
 use Rattle.session.proofs.sound.by_run.Statement.{statement}

@@ -1,7 +1,5 @@
 use Rattle.session.proofs.Clauses.{found-decides, unfound-decides, found-not}
 use Rattle.session.proofs.Found.{finds-unless-empty}
-use mathlib.Core.Path.{_≡_, sym, refl}
-use native.Mathlib.Omega.{arith}
 use borrow.Author.Needs.{needs}
 use Rattle.session.proofs.sound.flag_fits.Statement.{statement}
 use Rattle.session.proofs.sound.flag_fits.Tie as tie

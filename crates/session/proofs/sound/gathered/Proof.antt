@@ -2,10 +2,9 @@ use Rattle.states.proofs.Words.{Filled, filled-none, filled-more}
 use Rattle.states.proofs.Member.{in-or}
 use Rattle.states.specs.In.{Has}
 use Rattle.session.specs.Sets.{InCell}
-use mathlib.Core.Logic.{_⊎_, _↔_}
-use Prim.Native.Nat.{ℕ, _+_, _-_, _*_, _/_, _%_, _≤_, _<_}
-use lib.ListN.{length, getD, take}
-use mathlib.Core.Path.{_≡_, refl, sym, _∙_, ap}
+use mathlib.Core.Logic.{_⊎_}
+use Prim.Native.Nat.{_-_}
+use mathlib.Core.Path.{_≡_}
 use native.Mathlib.Omega.{arith}
 use borrow.Author.Needs.{needs}
 use Rattle.session.proofs.sound.gathered.Statement.{statement}

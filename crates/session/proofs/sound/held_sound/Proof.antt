@@ -1,7 +1,5 @@
-use mathlib.Core.Path.{_≡_, sym}
 use Rattle.session.proofs.Clauses.{both-decide}
 use Rattle.states.proofs.Answers.{left}
-use native.Mathlib.Omega.{arith}
 use borrow.Author.Needs.{needs}
 use Rattle.session.proofs.sound.held_sound.Statement.{statement}
 use Rattle.session.proofs.sound.held_sound.Tie as tie

@@ -1,7 +1,5 @@
 use Rattle.states.proofs.Same.{zero-none, some-in}
 use Rattle.states.proofs.Answers.{said, denied, left}
-use Prim.Native.Nat.{ℕ, _+_, _-_, _*_, _/_, _%_, _≤_, _<_}
-use mathlib.Core.Path.{_≡_, refl, sym, _∙_, ap}
 use native.Mathlib.Omega.{arith}
 use borrow.Author.Needs.{needs}
 use Rattle.session.proofs.sound.run_fits.Statement.{statement}

@@ -1,11 +1,10 @@
-use Rattle.states.proofs.Answers.{said, denied, fails}
+use Rattle.states.proofs.Answers.{said, fails}
 use borrow.Author.Tests.{not-false}
 use Rattle.session.specs.Session.{CellFits}
 use native.Mathlib.Decide.{ℕ-discrete}
 use mathlib.Core.Logic.{_≢_}
-use Prim.Native.Nat.{ℕ, _+_, _-_, _*_, _/_, _%_, _≤_, _<_}
-use lib.ListN.{length, getD, take}
-use mathlib.Core.Path.{_≡_, refl, sym, _∙_, ap}
+use Prim.Native.Nat.{ℕ, _-_, _≤_, _<_}
+use lib.ListN.{getD}
 use native.Mathlib.Omega.{arith}
 use borrow.Author.Needs.{needs}
 use Rattle.session.proofs.sound.runs_fit.Statement.{statement}

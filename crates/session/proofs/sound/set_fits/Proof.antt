@@ -1,8 +1,7 @@
 use Rattle.session.proofs.Passes.{set-decided}
-use Prim.Native.Nat.{ℕ, _+_, _-_, _*_, _/_, _%_, _≤_, _<_, min}
-use lib.ListN.{length, getD, take}
-use mathlib.Core.Path.{_≡_, refl, sym, _∙_, ap}
-use native.Mathlib.Omega.{arith}
+use Prim.Native.Nat.{min}
+use lib.ListN.{length}
+use mathlib.Core.Path.{_≡_}
 use borrow.Author.Needs.{needs}
 use Rattle.session.proofs.sound.set_fits.Statement.{statement}
 use Rattle.session.proofs.sound.set_fits.Tie as tie

@@ -1,5 +1,4 @@
 use Rattle.session.proofs.Clauses.{all-decide}
-use native.Mathlib.Omega.{arith}
 use borrow.Author.Needs.{needs}
 use Rattle.session.proofs.sound.sound.Statement.{statement}
 use Rattle.session.proofs.sound.sound.Tie as tie

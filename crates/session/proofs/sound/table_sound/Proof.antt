@@ -5,9 +5,9 @@ use Rattle.table.specs.Tests.{counts-test}
 use borrow.Author.Tests.{not-false}
 use lib.Dec.{lit<}
 use native.Mathlib.Nat.{mul-le-mul, lt-of-le-of-lt}
-use Prim.Native.Nat.{ℕ, _+_, _-_, _*_, _/_, _%_, _≤_, _<_}
-use lib.ListN.{length, getD, take}
-use mathlib.Core.Path.{_≡_, refl, sym, _∙_, ap}
+use Prim.Native.Nat.{_+_, _≤_}
+use lib.ListN.{length}
+use mathlib.Core.Path.{_≡_, sym, _∙_}
 use native.Mathlib.Omega.{arith}
 use borrow.Author.Needs.{needs}
 use Rattle.session.proofs.sound.table_sound.Statement.{statement}

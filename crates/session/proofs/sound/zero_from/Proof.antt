@@ -1,6 +1,6 @@
 use Rattle.session.proofs.Passes.{Zeros, zeros-none, zeros-more, zeros-all}
-use Prim.Native.Nat.{ℕ, _+_, _-_, _*_, _/_, _%_, _≤_, _<_}
-use lib.ListN.{length, getD, take}
+use Prim.Native.Nat.{_-_}
+use lib.ListN.{length}
 use native.Mathlib.Omega.{arith}
 use borrow.Author.Needs.{needs}
 use Rattle.session.proofs.sound.zero_from.Statement.{statement}
