@@ -63,8 +63,10 @@ ERROR = re.compile(r"^(?:\S*/)?((?:src|specs|proofs)/\S+?): error[^:]*: (.*)$", 
 NOTE = re.compile(r"^note: (?:\S*/)?(src/\S+?): (it is not proved that .*)$", re.MULTILINE)
 # An error that only follows from another one.
 FOLLOWS = re.compile("was not admitted .*, so this cannot be checked")
-# How the prover says that a proof no longer fits the code: it answers a need that is not there, or that of another place.
-UNFIT = re.compile(r"that can be named from here|expected type `tie\.Need-[^`]*`, but this has type `tie\.Need-")
+# How the prover says that a proof no longer fits the code: it answers a need that is not there,
+NO_NEED = re.compile("that can be named from here")
+# or, if that is the first thing wrong, that of another place.
+OTHER_NEED = re.compile(r"expected type `tie\.Need-[^`]*`, but this has type `tie\.Need-")
 
 
 def is_proved(log):
@@ -81,11 +83,11 @@ def modules_checked(log, name):
     return int(found.group(1)) if found else 0
 
 
-def first_fault(log):
-    """Where the first thing that is wrong in itself stands: file, line and column; or None."""
+def first_wrong(log):
+    """The first thing that is wrong in itself: where it stands, and what is said of it; or None and nothing."""
     errors = [found for found in ERROR.finditer(log) if not FOLLOWS.search(found.group(2))]
     found = errors[0] if errors else NOTE.search(log)
-    return found.group(1) if found else None
+    return found.groups() if found else (None, "")
 
 
 def fault_of(status, log):
@@ -94,12 +96,12 @@ def fault_of(status, log):
         return "accepted: the crate is still proved with it"
     if status != 1 or not is_refused(log):
         return "it did not reach the prover"
-    first = first_fault(log)
-    if first is None:
+    place, said = first_wrong(log)
+    if place is None:
         return "no fact fails"
-    if first.startswith("specs/"):
+    if place.startswith("specs/"):
         return "its first error is not in a proof"
-    if UNFIT.search(log):
+    if NO_NEED.search(log) or OTHER_NEED.search(said):
         return "it only made a proof unfit for the code, and shows nothing"
     return None
 
