@@ -14,9 +14,9 @@ EDITED = ("src", "specs")  # an edit of a proof shows nothing of the promise
 
 
 def crates():
-    """The crates that crates.txt lists, in its order."""
+    """The crates that crates.txt lists, in its order, and what each stands on."""
     lines = (ROOT / "crates.txt").read_text(encoding="utf-8").split("\n")
-    return [name.strip() for name, colon, _ in (line.split("#")[0].partition(":") for line in lines) if colon]
+    return {name.strip(): below.split() for name, colon, below in (line.split("#")[0].partition(":") for line in lines) if colon}
 
 
 def of(name, folder):
