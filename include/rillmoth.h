@@ -118,8 +118,8 @@ enum rillmoth_refusal {
  *   words      at least RILLMOTH_SESSION_WORDS words
  *   bytes      at least RILLMOTH_SESSION_BYTES bytes
  *   results    at least RILLMOTH_OPEN_RESULTS words: number, place, second place
- * Refuses with 2, 3, 1, 4, 5, 6, the first of them in this order; then zeros lie in the session's memory, which no feed accepts. Memory
- * beyond the session keeps its values. */
+ * Refuses with 2, 3, 1, 4, 5, 6, the first of them in this order; then `words` and `bytes` are what they were, and a session that lived
+ * there goes on. Memory beyond the session keeps its values. */
 bool rillmoth_open(const uint8_t *rows, size_t rows_count, size_t states, size_t inputs, size_t outputs, size_t waiting, size_t losses,
                    uint64_t *words, size_t words_count, uint8_t *bytes, size_t bytes_count, uint64_t *results, size_t results_count);
 

@@ -2,7 +2,7 @@
 // answers on standard output, until the input ends.
 //
 // All numbers are 8 bytes, unsigned, least byte first. A request is its number and then:
-//   1 open   states inputs outputs waiting losses rows_len, rows
+//   1 open   states inputs outputs waiting losses rows_len, rows, and what lies in the session's memory: 267 words, 2,085 bytes
 //            answer: 3 results, 267 words, 2,085 bytes
 //   2 feed   267 words, 2,085 bytes, event
 //            answer: 3 results, 267 words, 2,085 bytes
@@ -22,7 +22,7 @@
 //            answer: 4 results, out_len bytes; where the file is refused the first 3 are the reader's, and the last is 0
 //  10 standard out_len
 //            answer: 1 or 0, as the function answers true or false, out_len bytes
-// Memory that a function is to write to holds the byte 0xAA throughout before, so that what was left alone can be told.
+// Other memory that a function is to write to holds the byte 0xAA throughout before, so that what was left alone can be told.
 //
 // Input that ends inside a request ends the program with status 1; a request that is none of these, a length above 64 MiB, memory that
 // is refused, or an answer of false to another request than 10, with status 2.
@@ -175,8 +175,8 @@ static void give_session(void) {
 
 static void open(void) {
     struct table t = table();
-    memset(words, UNTOUCHED, sizeof words);
-    memset(bytes, UNTOUCHED, sizeof bytes);
+    take(words, sizeof words);
+    take(bytes, sizeof bytes);
     must(rillmoth_open(t.rows.at, t.rows.count, t.states, t.inputs, t.outputs, t.waiting, t.losses, words, WORDS, bytes, BYTES, told,
                        TEST_RESULTS));
     give_session();

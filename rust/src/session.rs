@@ -33,7 +33,7 @@ impl Session {
         Ok(session)
     }
 
-    /// Opens it anew, in the memory that it has. A refused one is zeros then, which no feed accepts.
+    /// Opens it anew, in the memory that it has. Refuses as [`open`](Session::open) does; then it is as it was, and goes on.
     pub fn reopen(&mut self, table: &Table, bounds: Bounds) -> Result<(), Refusal> {
         let mut results = [0; 3];
         doors::fits(doors::open(table, bounds, &mut self.words, &mut self.bytes, &mut results));

@@ -1,6 +1,7 @@
 //! The samples of this repository through the door: what is read, fed, run, written and listed of them.
 
-use rillmoth::{Bounds, Capture, House, Line, Outcome, Refusal, Session, Table, LINE_BYTES, NOT_ALLOWED};
+use rillmoth::{Bounds, Capture, House, Line, Outcome, Refusal, Session, Table};
+use rillmoth::{LINE_BYTES, NOT_ALLOWED, SESSION_BYTES, SESSION_WORDS};
 use std::fs::{self, File};
 use std::io::{self, Read, Seek};
 use std::path::PathBuf;
@@ -116,10 +117,28 @@ fn a_session_that_is_not_sound_is_refused_and_stays() {
     assert_eq!(fed.feed(0), Err(Refusal::NotSound));
     assert_eq!(fed, damaged);
 
-    let mut reopened = session;
-    assert_eq!(reopened.reopen(&table, Bounds { waiting: 33, losses: 1 }), Err(Refusal::BadWaiting { waiting: 33 }));
-    assert_eq!(reopened.line(), Line { states: 0, waiting: None, run: None });
-    assert_eq!(reopened.feed(0), Err(Refusal::NotSound));
+    // Zeros are none either.
+    let zeros = Session::from_parts([0; SESSION_WORDS], [0; SESSION_BYTES]);
+    assert_eq!(zeros.line(), Line { states: 0, waiting: None, run: None });
+    assert_eq!(zeros.clone().feed(0), Err(Refusal::NotSound));
+}
+
+#[test]
+fn a_session_goes_on_after_a_refused_opening() {
+    let table = Table { states: 2, inputs: 1, outputs: 2, rows: &[1, 255, 255, 255, 0, 0] };
+    let bounds = Bounds { waiting: 2, losses: 1 };
+    let mut session = Session::open(&table, bounds).expect("a session");
+    session.feed(0).expect("a fed session");
+    let before = session.clone();
+    let entry = Table { rows: &[1, 255, 2, 255, 0, 0], ..table };
+    assert_eq!(session.reopen(&entry, bounds), Err(Refusal::BadEntry { row: 0, column: 2 }));
+    assert_eq!(session.reopen(&table, Bounds { waiting: 0, ..bounds }), Err(Refusal::BadWaiting { waiting: 0 }));
+    assert_eq!(session.reopen(&table, Bounds { losses: 9, ..bounds }), Err(Refusal::BadLosses { losses: 9 }));
+    assert_eq!(session, before);
+    session.feed(rillmoth::output(0)).expect("a fed session");
+    assert_eq!((session.events(), session.flag()), (2, None));
+    session.reopen(&table, bounds).expect("a session");
+    assert_eq!(Session::open(&table, bounds), Ok(session));
 }
 
 #[test]

@@ -15,8 +15,8 @@ use Rattle.monitor.specs.Feed as feed
 use Rattle.monitor.specs.Feed.{FedTo}
 use Rattle.sessiondoors.specs.Layout.{session-bytes, session-in}
 use Rattle.sessiondoors.specs.Doors as doors
-use Rattle.sessiondoors.specs.Laws.{Sized, OpenedLies, FedLies, RefusedKeeps}
-use Rattle.sessiondoors.proofs.Answers.{room}
+use Rattle.sessiondoors.specs.Laws.{Sized, OpenedLies, RefusedOpeningKeeps, FedLies, RefusedKeeps}
+use Rattle.sessiondoors.proofs.Answers.{room, refuses}
 use Rattle.sessiondoors.proofs.Lies.{words-kept, bytes-kept, session-lies}
 
 -- OPENING
@@ -47,9 +47,14 @@ opened-sized rows s i o B c = go (opening rows s i o B c)
     go (Refused r) = zero-sized
 
 pub opened-lies : OpenedLies
-opened-lies rows s i o B c w b t w′ b′ t′ (doors.opens {r = x} e f) =
-    let z : Sized (x .session) = rw f (opened-sized rows s i o B c) in
-    session-lies (x .session) w b z ∙ ap (λ (y : Opened). y .session) f
+opened-lies rows s i o B c w b t w′ b′ t′ (doors.refused e f k) z = absurd (refuses _ (rw k at z))
+opened-lies rows s i o B c w b t w′ b′ t′ (doors.opens {r = x} e f k) z =
+    let sized : Sized (x .session) = rw f (opened-sized rows s i o B c) in
+    session-lies (x .session) w b sized ∙ ap (λ (y : Opened). y .session) f
+
+pub refused-opening-keeps : RefusedOpeningKeeps
+refused-opening-keeps rows s i o B c w b t w′ b′ t′ (doors.refused e f k) n = (refl, refl)
+refused-opening-keeps rows s i o B c w b t w′ b′ t′ (doors.opens e f k) n = absurd (n (rw k))
 
 -- FEEDING
 

@@ -1,5 +1,5 @@
 -- Every statement of specs/Laws.antt, proved, under one roof: other crates take the laws from here. Assumes nothing.
-use Rattle.sessiondoors.specs.Laws.{SessionBack, SessionLies, WordsBack, BytesBack, WordsKept, BytesKept, OpenedLies, FedLies, RefusedKeeps, OneOpening, OneFeeding}
+use Rattle.sessiondoors.specs.Laws.{SessionBack, SessionLies, WordsBack, BytesBack, WordsKept, BytesKept, OpenedLies, RefusedOpeningKeeps, FedLies, RefusedKeeps, OneOpening, OneFeeding}
 use Rattle.sessiondoors.proofs.Lies
 use Rattle.sessiondoors.proofs.After
 use Rattle.sessiondoors.proofs.Unique
@@ -26,6 +26,9 @@ bytes-kept = Lies.bytes-kept
 -- What lies in the memory afterwards.
 pub opened-lies : OpenedLies
 opened-lies = After.opened-lies
+
+pub refused-opening-keeps : RefusedOpeningKeeps
+refused-opening-keeps = After.refused-opening-keeps
 
 pub fed-lies : FedLies
 fed-lies = After.fed-lies

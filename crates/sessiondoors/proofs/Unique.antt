@@ -2,6 +2,9 @@
 use mathlib.Core.Path.{_≡_, refl, sym, ap, _∙_}
 use mathlib.Core.Bool.{Bool, true, false}
 use Rattle.table.proofs.Checks.{clash}
+use Rattle.table.specs.declared.answer.Refusal.{Refusal}
+use Rattle.table.specs.declared.answer.Test.{Test}
+use Rattle.table.specs.declared.answer.Test.the-variants.{Passed, Refused}
 use Rattle.session.specs.declared.Opened.{Opened}
 use Rattle.monitor.specs.declared.feed.Fed.{Fed}
 use Rattle.monitor.proofs.Laws.{one-feed}
@@ -15,11 +18,24 @@ use Rattle.sessiondoors.specs.Laws.{OneOpening, OneFeeding}
 not-both : {A : Type 0} {r : Bool} → r ≡ false → r ≡ true → A
 not-both e f = let h = sym e ∙ f in clash (cc)
 
+-- nothing is both passed and refused
+not-passed : {A : Type 0} {t : Test} {why : Refusal} → t ≡ Refused why → t ≡ Passed → A
+not-passed e f = let h = sym f ∙ e in clash (cc)
+
 pub one-opening : OneOpening
 one-opening rows s i o B c w b t a₁ a₂ w₁ b₁ t₁ w₂ b₂ t₂ (doors.short e) (doors.short e′) = (refl, refl, refl, refl)
-one-opening rows s i o B c w b t a₁ a₂ w₁ b₁ t₁ w₂ b₂ t₂ (doors.short e) (doors.opens e′ f) = not-both e e′
-one-opening rows s i o B c w b t a₁ a₂ w₁ b₁ t₁ w₂ b₂ t₂ (doors.opens e f) (doors.short e′) = not-both e′ e
-one-opening rows s i o B c w b t a₁ a₂ w₁ b₁ t₁ w₂ b₂ t₂ (doors.opens {r = x} e f) (doors.opens {r = y} e′ f′) =
+one-opening rows s i o B c w b t a₁ a₂ w₁ b₁ t₁ w₂ b₂ t₂ (doors.short e) (doors.refused e′ f k) = not-both e e′
+one-opening rows s i o B c w b t a₁ a₂ w₁ b₁ t₁ w₂ b₂ t₂ (doors.short e) (doors.opens e′ f k) = not-both e e′
+one-opening rows s i o B c w b t a₁ a₂ w₁ b₁ t₁ w₂ b₂ t₂ (doors.refused e f k) (doors.short e′) = not-both e′ e
+one-opening rows s i o B c w b t a₁ a₂ w₁ b₁ t₁ w₂ b₂ t₂ (doors.opens e f k) (doors.short e′) = not-both e′ e
+one-opening rows s i o B c w b t a₁ a₂ w₁ b₁ t₁ w₂ b₂ t₂ (doors.refused {r = x} e f k) (doors.refused {r = y} e′ f′ k′) =
+    let same : x ≡ y = f ∙ sym f′ in
+    (refl, refl, refl, ap (λ (z : Opened). front t (test-results (z .test))) same)
+one-opening rows s i o B c w b t a₁ a₂ w₁ b₁ t₁ w₂ b₂ t₂ (doors.refused {r = x} e f k) (doors.opens {r = y} e′ f′ k′) =
+    not-passed k (ap (λ (z : Opened). z .test) (f ∙ sym f′) ∙ k′)
+one-opening rows s i o B c w b t a₁ a₂ w₁ b₁ t₁ w₂ b₂ t₂ (doors.opens {r = x} e f k) (doors.refused {r = y} e′ f′ k′) =
+    not-passed k′ (ap (λ (z : Opened). z .test) (f′ ∙ sym f) ∙ k)
+one-opening rows s i o B c w b t a₁ a₂ w₁ b₁ t₁ w₂ b₂ t₂ (doors.opens {r = x} e f k) (doors.opens {r = y} e′ f′ k′) =
     let same : x ≡ y = f ∙ sym f′ in (
       refl,
       ap (λ (z : Opened). front w (words-of (z .session))) same,

@@ -6,7 +6,9 @@ use mathlib.Core.List.{List}
 use Prim.Native.Nat.{ℕ}
 use lib.Dec.{leb}
 use lib.ListN.{length}
+use Rattle.table.specs.declared.answer.Refusal.{Refusal}
 use Rattle.table.specs.declared.answer.Test.{Test}
+use Rattle.table.specs.declared.answer.Test.the-variants.{Passed, Refused}
 use Rattle.session.specs.declared.Opened.{Opened}
 use Rattle.monitor.specs.declared.feed.Fed.{Fed}
 use Rattle.session.specs.Open.{opened}
@@ -26,10 +28,13 @@ test-results t = figures (told-test t)
 abbrev pub roomy : List ℕ → List ℕ → List ℕ → Bool
 roomy words bytes told = leb session-words (length words) && (leb session-bytes (length bytes) && leb test-size (length told))
 
--- Opening: the session and the results are at the start of the memory.
+-- Opening: the results are at the start of their memory, and so is the session; a refusal "leaves the session and all memory handed over as
+-- they were": what lay in words and bytes lies there still.
 pub data Opens (rows : List ℕ) (s i o B c : ℕ) (words bytes told : List ℕ) : Bool → List ℕ → List ℕ → List ℕ → Type 0 where
   short : roomy words bytes told ≡ false → Opens rows s i o B c words bytes told false words bytes told
-  opens : {r : Opened} → roomy words bytes told ≡ true → r ≡ opened rows s i o B c
+  refused : {r : Opened} {why : Refusal} → roomy words bytes told ≡ true → r ≡ opened rows s i o B c → r .test ≡ Refused why
+      → Opens rows s i o B c words bytes told true words bytes (front told (test-results (r .test)))
+  opens : {r : Opened} → roomy words bytes told ≡ true → r ≡ opened rows s i o B c → r .test ≡ Passed
       → Opens rows s i o B c words bytes told true (front words (words-of (r .session))) (front bytes (bytes-of (r .session))) (front told (test-results (r .test)))
 
 -- Feeding: the session that lies in the memory is fed, and what it became lies there.

@@ -48,11 +48,17 @@ BytesKept = (w b : List ℕ) → session-bytes ≤ length b → front b (bytes-o
 
 -- WHAT LIES IN THE MEMORY AFTERWARDS
 
--- After an opening the memory holds the session that opening gives.
+-- After an opening whose number is 0 the memory holds the session that opening gives.
 abbrev pub OpenedLies : Type 0
 OpenedLies =
-    (rows : List ℕ) (s i o B c : ℕ) (w b t w′ b′ t′ : List ℕ) → Opens rows s i o B c w b t true w′ b′ t′
+    (rows : List ℕ) (s i o B c : ℕ) (w b t w′ b′ t′ : List ℕ) → Opens rows s i o B c w b t true w′ b′ t′ → getD t′ 0 0 ≡ 0
     → session-in w′ b′ ≡ opened rows s i o B c .session
+
+-- An opening with another number is refused, and leaves words and bytes as they were: a session that lies there goes on.
+abbrev pub RefusedOpeningKeeps : Type 0
+RefusedOpeningKeeps =
+    (rows : List ℕ) (s i o B c : ℕ) (w b t w′ b′ t′ : List ℕ) → Opens rows s i o B c w b t true w′ b′ t′ → (getD t′ 0 0 ≡ 0 → ⊥)
+    → (w′ ≡ w) × (b′ ≡ b)
 
 -- A feed whose number is 0 leaves the session that was there, fed the event.
 abbrev pub FedLies : Type 0

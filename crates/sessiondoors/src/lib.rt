@@ -1,8 +1,8 @@
-// Sessions for programs in other languages: numbers and lent slices only. A slice is passed as its address and its count of elements. The
-// address is not null, also where the count is 0, and no slice that is written to lies over another. Nothing else is asked: every function
-// answers every input. It answers false exactly when memory lent for a session or for results is shorter than its layout, and then nothing
-// is written; a refusal is an answer of true, with its number in the results. specs/Layout.antt says how a session lies in memory, and
-// specs/Doors.antt what the results are and what each function does.
+// Sessions for programs in other languages: numbers and lent slices only. A slice is passed as its address, which may be null where the
+// count is 0, and its count of elements. No slice that is written to lies over another. Nothing else is asked: every function answers every
+// input. It answers false exactly when memory lent for a session or for results is shorter than its layout, and then nothing is written; a
+// refusal is an answer of true, with its number in the results, and writes nothing else. specs/Layout.antt says how a session lies in
+// memory, and specs/Doors.antt what the results are and what each function does.
 ghost use mathlib.Core.Path.{_≡_};
 ghost use mathlib.Core.Bool.{_&&_};
 ghost use lib.Dec.{leb};
@@ -15,6 +15,9 @@ mod layout;
 
 // How many words the results of opening and feeding are.
 const TEST: usize = 3;
+
+// Which of them is a refusal's number: 0 where nothing is refused.
+const NUMBER: usize = 0;
 
 // Whether memory of these lengths has room for a session and for the results of opening and feeding.
 fn roomy(words: usize, bytes: usize, told: usize) -> bool
@@ -37,7 +40,7 @@ fn of_test(test: Test) -> [u64; 3]
     [t.number as u64, t.place as u64, t.second as u64]
 }
 
-// Opens a session in the memory lent. Where it is refused, a session of zeros only lies there.
+// Opens a session in the memory lent. Where it is refused, the results alone are written: a session that lies there goes on.
 #[no_mangle]
 pub extern "C" fn rillmoth_open(
     rows: &[u8],
@@ -57,10 +60,14 @@ pub extern "C" fn rillmoth_open(
     }
     let opened = session::open(rows, states, inputs, outputs, waiting, losses);
     let test = opened.test;
+    let results = of_test(test);
+    lent::put_words(&results, &mut *told, 0);
+    if results[NUMBER] != 0 {
+        return true;
+    }
     let s = opened.session;
     layout::put_words(&mut *words, s);
     layout::put_bytes(&mut *bytes, s);
-    lent::put_words(&of_test(test), &mut *told, 0);
     true
 }
 

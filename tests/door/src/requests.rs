@@ -1,7 +1,7 @@
 //! The requests, each through the Rust door and back into the figures of its answer.
 
-use crate::wire::{Input, Output, UNTOUCHED};
-use rillmoth::{Capture, Contents, House, Outcome, Refusal, Session, Source, SESSION_BYTES, SESSION_WORDS};
+use crate::wire::{Input, Output};
+use rillmoth::{Capture, Contents, House, Outcome, Refusal, Session, Source};
 use std::fs::{self, File, OpenOptions};
 use std::io::{self, Read, Seek, Write};
 
@@ -15,8 +15,7 @@ fn told<T>(answer: &Result<T, Refusal>) -> [u64; 3] {
 
 pub fn open(input: &mut Input, output: &mut Output) -> io::Result<()> {
     let offered = input.offered()?;
-    let word = u64::from_le_bytes([UNTOUCHED; 8]);
-    let mut session = Session::from_parts([word; SESSION_WORDS], [UNTOUCHED; SESSION_BYTES]);
+    let mut session = input.session()?;
     let answer = session.reopen(&offered.table(), offered.bounds);
     // The other way to open a session gives the same one.
     let fresh = Session::open(&offered.table(), offered.bounds);

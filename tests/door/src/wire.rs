@@ -81,7 +81,7 @@ impl<'a> Input<'a> {
     }
 }
 
-pub const UNTOUCHED: u8 = 0xAA;
+const UNTOUCHED: u8 = 0xAA;
 
 pub struct Output<'a> {
     to: BufWriter<StdoutLock<'a>>,

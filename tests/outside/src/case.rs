@@ -11,9 +11,10 @@ use crate::standard::{self, Given};
 use crate::writer::{self, Wanted, Written};
 use crate::wrong::Wrong;
 
+/// An opening is handed memory too, in which a session may lie before.
 #[derive(Clone, Debug)]
 pub enum Case {
-    Open { offered: Offered },
+    Open { offered: Offered, before: Session },
     Feed { session: Session, event: u8 },
     Run { offered: Offered, trace: Vec<u8>, room: usize },
     Read { file: Vec<u8>, row_room: usize, event_room: usize },
@@ -76,8 +77,8 @@ impl Case {
     /// What the right implementation answers, or a wrong one.
     pub fn answer(&self, wrong: Wrong) -> Answer {
         match self {
-            Case::Open { offered } => {
-                let (refusal, session) = session::open(offered, wrong);
+            Case::Open { offered, before } => {
+                let (refusal, session) = session::open(offered, before, wrong);
                 Answer::Session { told: told(refusal), session }
             }
             Case::Feed { session, event } => {

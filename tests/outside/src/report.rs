@@ -49,7 +49,7 @@ fn made(capture: &Made) -> String {
 
 pub fn case(case: &Case) -> String {
     match case {
-        Case::Open { offered: given } => format!("open {}", offered(given)),
+        Case::Open { offered: given, before } => format!("open {} over {}", offered(given), session(before)),
         Case::Feed { session: given, event } => format!("feed event {event} {}", session(given)),
         Case::Run { offered: given, trace, room } => {
             format!("run {} trace ({}) {} room {room}", offered(given), trace.len(), bytes(trace))

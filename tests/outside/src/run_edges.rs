@@ -6,6 +6,7 @@ use crate::refusal::Offered;
 use crate::run::FIGURE;
 use crate::runs::Handed;
 use crate::session::MOST_EVENTS;
+use crate::session_edges::plain;
 use crate::tables;
 
 /// Document 01's edges for openings and runs, one by one and every two faults at once.
@@ -14,7 +15,7 @@ pub fn edges() -> Vec<Case> {
     for offered in offered_edges() {
         let trace = vec![0; 3];
         let room = FIGURE * trace.len();
-        cases.push(Case::Open { offered: offered.clone() });
+        cases.push(Case::Open { offered: offered.clone(), before: plain() });
         cases.push(Case::Run { offered, trace, room });
     }
     cases.extend(paired_faults());
@@ -138,14 +139,14 @@ fn paired_faults() -> Vec<Case> {
         |handed| handed.room = 23,
     ];
     let right = Handed::of(&tables::small(), Bounds { waiting: 2, losses: 1 }, vec![0, 128]);
-    let mut cases = vec![right.clone().run(), right.clone().open()];
+    let mut cases = vec![right.clone().run(), right.clone().open(plain())];
     for first in faults {
         for second in faults {
             let mut handed = right.clone();
             first(&mut handed);
             second(&mut handed);
             cases.push(handed.clone().run());
-            cases.push(handed.open());
+            cases.push(handed.open(plain()));
         }
     }
     cases

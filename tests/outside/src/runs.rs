@@ -5,7 +5,8 @@ use crate::model::{Bounds, Table};
 use crate::random::Random;
 use crate::refusal::Offered;
 use crate::run::FIGURE;
-use crate::tables;
+use crate::session::Session;
+use crate::{sessions, tables};
 
 /// All that a run is handed.
 #[derive(Clone)]
@@ -25,8 +26,9 @@ impl Handed {
         Case::Run { offered: self.offered, trace: self.trace, room: self.room }
     }
 
-    pub fn open(self) -> Case {
-        Case::Open { offered: self.offered }
+    /// An opening over this session.
+    pub fn open(self, before: Session) -> Case {
+        Case::Open { offered: self.offered, before }
     }
 }
 
@@ -68,8 +70,17 @@ pub fn long_run(random: &mut Random) -> Case {
     Handed::of(&tables::small(), bounds, trace).run()
 }
 
+/// What lies in memory that is to be opened: mostly a session that could be fed.
+fn before(random: &mut Random) -> Session {
+    if random.chance(1, 4) {
+        Session::zeros()
+    } else {
+        sessions::sound(random)
+    }
+}
+
 pub fn open(random: &mut Random) -> Case {
-    handed(random).open()
+    handed(random).open(before(random))
 }
 
 /// A run with one damage or two.
@@ -78,7 +89,7 @@ pub fn damaged_run(random: &mut Random) -> Case {
 }
 
 pub fn damaged_open(random: &mut Random) -> Case {
-    damaged(random).open()
+    damaged(random).open(before(random))
 }
 
 fn damaged(random: &mut Random) -> Handed {

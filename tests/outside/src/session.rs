@@ -40,18 +40,28 @@ pub fn limit(most: u64, wrong: Wrong) -> u64 {
     }
 }
 
-/// Opens a session; a refused opening gives zeros only.
-pub fn open(offered: &Offered, wrong: Wrong) -> (Option<Refusal>, Session) {
+/// Opens a session in memory that holds this one. A refused opening leaves it there, and it goes on.
+pub fn open(offered: &Offered, before: &Session, wrong: Wrong) -> (Option<Refusal>, Session) {
     match offered.opening(wrong) {
-        Err(refusal) if wrong == Wrong::RefusedOpeningKept => {
-            let mut kept = Session::zeros();
-            kept.states = (offered.states % 256) as u8;
-            kept.waiting = (offered.waiting % 256) as u8;
-            (Some(refusal), kept)
-        }
-        Err(refusal) => (Some(refusal), Session::zeros()),
+        Err(refusal) => (Some(refusal), refused(offered, before, wrong)),
         Ok(()) => (None, Session::of(&Watch::start(table(offered), bounds(offered)))),
     }
+}
+
+/// What lies in the memory after a refused opening.
+fn refused(offered: &Offered, before: &Session, wrong: Wrong) -> Session {
+    let mut left = before.clone();
+    match wrong {
+        Wrong::RefusedOpeningKept => {
+            left.states = (offered.states % 256) as u8;
+            left.waiting = (offered.waiting % 256) as u8;
+        }
+        Wrong::RefusedOpeningCleared => left = Session::zeros(),
+        Wrong::RefusedOpeningClearsWords => left = Session::from_parts(&[0; WORDS], &before.bytes()),
+        Wrong::RefusedOpeningClearsBytes => left = Session::from_parts(&before.words(), &[0; BYTES]),
+        _ => {}
+    }
+    left
 }
 
 /// The table of counts and rows that have passed their tests.

@@ -73,7 +73,7 @@ fn corners() -> Vec<Case> {
 }
 
 /// A sound session of a table with two states, two inputs and one output: B 3, c 2, two inputs seen.
-fn plain() -> Session {
+pub fn plain() -> Session {
     let rows = vec![1, 0, 1, 255, 0, 0];
     let table = Table { states: 2, inputs: 2, outputs: 1, rows };
     let mut watch = Watch::start(table, Bounds { waiting: 3, losses: 2 });

@@ -44,7 +44,10 @@ pub fn request(case: &Case) -> Vec<u8> {
     let mut bytes = Vec::new();
     put(&mut bytes, case.function() as u64 + 1);
     match case {
-        Case::Open { offered } => put_offered(&mut bytes, offered),
+        Case::Open { offered, before } => {
+            put_offered(&mut bytes, offered);
+            put_session(&mut bytes, before);
+        }
         Case::Feed { session, event } => {
             put_session(&mut bytes, session);
             put(&mut bytes, *event as u64);
@@ -166,7 +169,7 @@ pub fn serve(wrong: Wrong) -> io::Result<()> {
 
 fn get_case(operation: u64, from: &mut dyn Read) -> io::Result<Case> {
     Ok(match operation {
-        1 => Case::Open { offered: get_offered(from)? },
+        1 => Case::Open { offered: get_offered(from)?, before: get_session(from)? },
         2 => Case::Feed { session: get_session(from)?, event: get(from)? as u8 },
         3 => Case::Run { offered: get_offered(from)?, trace: get_counted(from)?, room: get(from)? as usize },
         4 => Case::Read { file: get_counted(from)?, row_room: get(from)? as usize, event_room: get(from)? as usize },

@@ -68,7 +68,7 @@ fn p8_to_p10_with_loss() {
 fn limits_of_the_bounds() {
     let told = |waiting: u64, losses: u64| {
         let given = Offered { waiting, losses, ..offered(&small(), Bounds { waiting: 1, losses: 1 }) };
-        open(&given, Wrong::Nothing).0.map(|refusal| refusal.told())
+        open(&given, &Session::zeros(), Wrong::Nothing).0.map(|refusal| refusal.told())
     };
     assert_eq!(told(32, 8), None);
     assert_eq!(told(33, 8), Some([5, 33, 0]));
@@ -199,11 +199,13 @@ fn full_sessions_give_nine() {
 }
 
 #[test]
-fn refused_openings_are_zeros_and_not_sound() {
+fn refused_openings_leave_the_session_and_zeros_are_not_sound() {
     let given = Offered { states: 65, ..offered(&small(), Bounds { waiting: 1, losses: 1 }) };
-    let (_, session) = open(&given, Wrong::Nothing);
-    assert_eq!(session, Session::zeros());
-    assert!(!session.sound(Wrong::Nothing));
+    let before = Session::of(&after(2, 1, &[POLL]));
+    let (refusal, session) = open(&given, &before, Wrong::Nothing);
+    assert_eq!(refusal.map(|refusal| refusal.told()), Some([2, 65, 0]));
+    assert_eq!(session, before);
+    assert!(!Session::zeros().sound(Wrong::Nothing));
 }
 
 #[test]

@@ -134,6 +134,9 @@ wrong_monitors! {
     RefusedOpeningKept: "hands out a session with a refused opening",
     RefusedFeedCleared: "hands out a session of zeros with a refused feed",
     // The listing.
+    RefusedOpeningCleared: "puts zeros over the session with a refused opening",
+    RefusedOpeningClearsWords: "puts zeros over the session's words with a refused opening",
+    RefusedOpeningClearsBytes: "puts zeros over the session's bytes with a refused opening",
     ListingStops: "leaves out the events after the flag",
     ListingShouts: "writes upper-case digits",
     ListingOneDash: "writes one dash for both pairs",
