@@ -76,7 +76,7 @@ extern "C" {
 
 #define RILLMOTH_NUMBER 0 /* 0: not refused; else one of enum rillmoth_refusal */
 #define RILLMOTH_PLACE 1 /* the refusal's place, 0 where it has none */
-#define RILLMOTH_SECOND 2 /* its second place; not of rillmoth_import and rillmoth_hand, whose refusals have none */
+#define RILLMOTH_SECOND 2 /* its second place, 0 where it has none: of rillmoth_feed, rillmoth_import and rillmoth_hand always */
 
 #define RILLMOTH_RESULTS 11 /* as many words as any function needs */
 #define RILLMOTH_OPEN_RESULTS 3
@@ -84,8 +84,8 @@ extern "C" {
 #define RILLMOTH_RUN_RESULTS 4
 #define RILLMOTH_READ_RESULTS 11
 #define RILLMOTH_WRITE_RESULTS 4
-#define RILLMOTH_IMPORT_RESULTS 3
-#define RILLMOTH_HAND_RESULTS 5
+#define RILLMOTH_IMPORT_RESULTS 4
+#define RILLMOTH_HAND_RESULTS 6
 
 /* All counting is from 0. After each: the place, and the second place if there is one. */
 enum rillmoth_refusal {
@@ -184,20 +184,21 @@ bool rillmoth_write(size_t source, const uint8_t *rows, size_t rows_count, size_
  * table; feeding or running them is.
  *   capture    all its bytes
  *   events     a byte for each record; RILLMOTH_MOST_EVENTS are always enough
- *   results    at least RILLMOTH_IMPORT_RESULTS words: number, place, and at RILLMOTH_IMPORT_EVENTS how many events were written
+ *   results    at least RILLMOTH_IMPORT_RESULTS words: number, place, second place, and at RILLMOTH_IMPORT_EVENTS how many events were
+ *              written
  * Refuses with 15, then 16 over all records, then 9, 7, 10; then `events` is as it was, and the count is 0. */
-#define RILLMOTH_IMPORT_EVENTS 2
+#define RILLMOTH_IMPORT_EVENTS 3
 bool rillmoth_import(const uint8_t *capture, size_t capture_count, uint8_t *events, size_t events_count, uint64_t *results,
                      size_t results_count);
 
 /* Hands out one event of a capture, for programs that have no room for all. Begin with place 0, and pass on the place that was told.
  *   place      the index of the record
- *   results    at least RILLMOTH_HAND_RESULTS words: number, place, and those named below
+ *   results    at least RILLMOTH_HAND_RESULTS words: number, place, second place, and those named below
  * Without a number, and without an event, the capture is at its end. Refuses with 15, then at this record 16, 9, 7; then the place
  * stays. */
-#define RILLMOTH_HAND_THERE 2 /* 1: an event; 0: none */
-#define RILLMOTH_HAND_EVENT 3
-#define RILLMOTH_HAND_NEXT 4 /* the place to go on from */
+#define RILLMOTH_HAND_THERE 3 /* 1: an event; 0: none */
+#define RILLMOTH_HAND_EVENT 4
+#define RILLMOTH_HAND_NEXT 5 /* the place to go on from */
 bool rillmoth_hand(const uint8_t *capture, size_t capture_count, size_t place, uint64_t *results, size_t results_count);
 
 /* Lists the house file that the descriptor `input` gives to its end, as text to the descriptor `output` (README.md, "Reading a

@@ -13,9 +13,9 @@
 //   5 list   file_len, file
 //            answer: text_len, text, outcome
 //   6 import capture_len, capture, event_room
-//            answer: 3 results, event_room bytes
+//            answer: 4 results, event_room bytes
 //   7 hand   capture_len, capture, place
-//            answer: 5 results
+//            answer: 6 results
 //   8 write  source states inputs outputs waiting losses rows_len, rows, trace_len, trace, out_len
 //            answer: 4 results, out_len bytes
 //   9 again  file_len, file, out_len: the file is read, and where it is good, what was read is written
@@ -59,7 +59,7 @@ _Bool rillmoth_write(size_t source, const u8 *rows, size_t rows_len, size_t stat
 _Bool rillmoth_standard(u8 *rows, size_t rows_len);
 
 enum { WORDS = 267, BYTES = 2085, TEST_RESULTS = 3, RUN_RESULTS = 4, READ_RESULTS = 11 };
-enum { IMPORT_RESULTS = 3, HAND_RESULTS = 5, WRITE_RESULTS = 4, UNTOUCHED = 0xAA };
+enum { IMPORT_RESULTS = 4, HAND_RESULTS = 6, WRITE_RESULTS = 4, UNTOUCHED = 0xAA };
 enum { ROW_ROOM = 2048, EVENT_ROOM = 4096 };
 enum { SHORT_INPUT = 1, BAD_REQUEST = 2 };
 static const u64 MOST = 64ull << 20;

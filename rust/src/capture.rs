@@ -10,10 +10,10 @@ pub const MOST_EVENTS: usize = 1_048_576;
 /// The answer is how many there are. Refuses with 15; then 16 over all records; then 9, 7, 10; then `events` is as it was. Octets are
 /// not held to a table: feeding them is.
 pub fn import(capture: &[u8], events: &mut [u8]) -> Result<usize, Refusal> {
-    let mut results = [0; 3];
+    let mut results = [0; 4];
     doors::fits(doors::import(capture, events, &mut results));
-    let [number, place, count] = results;
-    Refusal::told(number, place, 0)?;
+    let [number, place, second, count] = results;
+    Refusal::told(number, place, second)?;
     Ok(count as usize)
 }
 
@@ -58,11 +58,11 @@ impl<'a> Capture<'a> {
 
     /// The next event, none at the end. Refuses with 15; then at its own record 16, 9, 7; then it stays where it is.
     pub fn hand(&mut self) -> Result<Option<u8>, Refusal> {
-        let mut results = [0; 5];
+        let mut results = [0; 6];
         doors::fits(doors::hand(self.bytes, self.place, &mut results));
-        let [number, place, there, event, next] = results;
+        let [number, place, second, there, event, next] = results;
         self.place = next as usize;
-        Refusal::told(number, place, 0)?;
+        Refusal::told(number, place, second)?;
         Ok(if there == 0 { None } else { Some(event as u8) })
     }
 }

@@ -3,15 +3,46 @@ use mathlib.Core.Path.{_≡_, refl, sym, ap, _∙_}
 use mathlib.Core.Bool.{Bool, true, false}
 use Rattle.table.proofs.Checks.{clash}
 use Rattle.lent.specs.Lent.{front}
+use Rattle.capture.specs.Reading.{handed-at}
+use Rattle.capture.specs.Refusals.{told, told-imported, told-taken}
+use Rattle.capture.specs.declared.answer.Refusal.{Refusal}
+use Rattle.capture.specs.declared.answer.Refusal.the-variants.{Header, Record, Events, Event, Buffer}
 use Rattle.capture.specs.declared.answer.Imported.{Imported}
+use Rattle.capture.specs.declared.answer.Imported.the-variants as imported
+use Rattle.capture.specs.declared.answer.Taken.{Taken}
+use Rattle.capture.specs.declared.answer.Taken.the-variants as taken
 use Rattle.capture.proofs.Laws.{one-import}
 use Rattle.capturedoors.specs.Results.{import-results}
 use Rattle.capturedoors.specs.Results as doors
-use Rattle.capturedoors.specs.Laws.{OneImporting, OneHanding}
+use Rattle.capturedoors.specs.Laws.{ImportingTellsOnePlace, HandingTellsOnePlace, OneImporting, OneHanding}
 
 -- memory is not both too short and long enough
 not-both : {A : Type 0} {r : Bool} → r ≡ false → r ≡ true → A
 not-both e f = let h = sym e ∙ f in clash (cc)
+
+-- no refusal of a capture has a second place
+one-place : (r : Refusal) → told r .second ≡ 0
+unfolding told
+one-place Header = refl
+one-place (Record _) = refl
+one-place (Events _) = refl
+one-place (Event _) = refl
+one-place (Buffer _) = refl
+
+pub importing-tells-one-place : ImportingTellsOnePlace
+importing-tells-one-place s d t d′ t′ (doors.imports {r} e f) = go r
+  where
+    go : (r : Imported) → told-imported r .second ≡ 0
+    go (imported.Good _) = refl
+    go (imported.Refused r) = one-place r
+
+pub handing-tells-one-place : HandingTellsOnePlace
+handing-tells-one-place s i t t′ (doors.hands e) = go (handed-at s i .taken)
+  where
+    go : (r : Taken) → told-taken r .second ≡ 0
+    go (taken.Event _) = refl
+    go taken.End = refl
+    go (taken.Refused r) = one-place r
 
 pub one-importing : OneImporting
 one-importing s d t a₁ a₂ d₁ t₁ d₂ t₂ (doors.Importing.short e) (doors.Importing.short e′) = (refl, refl, refl)

@@ -1,9 +1,18 @@
 -- What is shown of the functions, each under one sentence. proofs/Laws.antt proves them all. Assumes nothing.
 use mathlib.Core.Path.{_≡_}
-use mathlib.Core.Bool.{Bool}
+use mathlib.Core.Bool.{Bool, true}
 use mathlib.Core.List.{List}
 use Prim.Native.Nat.{ℕ}
+use lib.ListN.{getD}
 use Rattle.capturedoors.specs.Results.{Importing, Handing}
+
+-- The word of the second place is 0: what is refused of a capture has one place.
+abbrev pub ImportingTellsOnePlace : Type 0
+ImportingTellsOnePlace =
+    (capture events told events′ told′ : List ℕ) → Importing capture events told true events′ told′ → getD told′ 2 0 ≡ 0
+
+abbrev pub HandingTellsOnePlace : Type 0
+HandingTellsOnePlace = (capture : List ℕ) (place : ℕ) (told told′ : List ℕ) → Handing capture place told true told′ → getD told′ 2 0 ≡ 0
 
 -- Of one input there is one answer, and one content of each memory that was lent.
 abbrev pub OneImporting : Type 0

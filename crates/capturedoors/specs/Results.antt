@@ -15,16 +15,16 @@ use Rattle.capture.specs.declared.answer.Imported.{Imported}
 use Rattle.capture.specs.declared.answer.Taken.{Taken}
 use Rattle.capture.specs.declared.answer.Taken.the-variants.{Event, End, Refused}
 
--- An import: the number, the place, and how many events were written.
+-- An import: the number, both places, as every function tells them, and how many events were written.
 abbrev pub import-size : ℕ
-import-size = 3
+import-size = 4
 
 abbrev pub import-results : Imported → List ℕ
-import-results r = told-imported r .number ∷ told-imported r .place ∷ count-imported r ∷ []
+import-results r = told-imported r .number ∷ told-imported r .place ∷ told-imported r .second ∷ count-imported r ∷ []
 
--- One call of the reader: the number, the place, 1 for an event and 0 else, the event byte, and the reader's place then.
+-- One call of the reader: the number, both places, 1 for an event and 0 else, the event byte, and the reader's place then.
 abbrev pub hand-size : ℕ
-hand-size = 5
+hand-size = 6
 
 abbrev pub event-told : Taken → ℕ
 event-told (Event byte) = 1
@@ -33,7 +33,13 @@ event-told (Refused r) = 0
 
 abbrev pub hand-results : Handed → List ℕ
 hand-results h =
-    told-taken (h .taken) .number ∷ told-taken (h .taken) .place ∷ event-told (h .taken) ∷ event-taken (h .taken) ∷ h .place ∷ []
+    told-taken (h .taken) .number
+    ∷ told-taken (h .taken) .place
+    ∷ told-taken (h .taken) .second
+    ∷ event-told (h .taken)
+    ∷ event-taken (h .taken)
+    ∷ h .place
+    ∷ []
 
 -- The results are at the start of their memory. What is in the buffer of events is the import's part.
 pub data Importing (capture events told : List ℕ) : Bool → List ℕ → List ℕ → Type 0 where

@@ -104,7 +104,7 @@ impl Lister {
 pub fn import(input: &mut Input, output: &mut Output) -> io::Result<()> {
     let (capture, mut events) = (input.bytes()?, input.untouched()?);
     let answer = rillmoth::import(&capture, &mut events);
-    output.numbers(&told(&answer)[..2])?;
+    output.numbers(&told(&answer))?;
     output.numbers(&[answer.map_or(0, |count| count as u64)])?;
     output.bytes(&events)
 }
@@ -114,7 +114,7 @@ pub fn hand(input: &mut Input, output: &mut Output) -> io::Result<()> {
     let mut capture = Capture::at(&bytes, input.size()?);
     let answer = capture.hand();
     let event = answer.ok().flatten();
-    output.numbers(&told(&answer)[..2])?;
+    output.numbers(&told(&answer))?;
     output.numbers(&[event.is_some().into(), event.unwrap_or(0).into(), capture.place() as u64])
 }
 

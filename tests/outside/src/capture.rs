@@ -64,8 +64,8 @@ impl Made {
 
 #[derive(Clone, Debug, PartialEq)]
 pub struct Imported {
-    /// Number, place, events written.
-    pub told: [u64; 3],
+    /// Number, place, second place, events written.
+    pub told: [u64; 4],
     pub events: Vec<u8>,
 }
 
@@ -176,6 +176,15 @@ fn judged(capture: &[u8], room: usize, wrong: Wrong) -> Result<Vec<u8>, (Refusal
     Ok(events)
 }
 
+fn imported(told: [u64; 4], wrong: Wrong) -> [u64; 4] {
+    let [number, place, second, count] = told;
+    if wrong == Wrong::CountForSecond {
+        [number, place, count, second]
+    } else {
+        told
+    }
+}
+
 /// A whole import into a buffer of so many bytes.
 pub fn import(capture: &[u8], room: usize, wrong: Wrong) -> Imported {
     let mut buffer = vec![UNTOUCHED; room];
@@ -185,7 +194,7 @@ pub fn import(capture: &[u8], room: usize, wrong: Wrong) -> Imported {
             if wrong == Wrong::ClearsRest {
                 buffer[events.len()..].fill(0);
             }
-            Imported { told: [0, 0, events.len() as u64], events: buffer }
+            Imported { told: imported([0, 0, 0, events.len() as u64], wrong), events: buffer }
         }
         Err((refusal, events)) => {
             if wrong == Wrong::WritesWhenRefused {
@@ -193,7 +202,7 @@ pub fn import(capture: &[u8], room: usize, wrong: Wrong) -> Imported {
                 buffer[..fits].copy_from_slice(&events[..fits]);
             }
             let count = if wrong == Wrong::TellsWhenRefused { events.len() as u64 } else { 0 };
-            Imported { told: [refusal.number, refusal.place, count], events: buffer }
+            Imported { told: imported([refusal.number, refusal.place, refusal.second, count], wrong), events: buffer }
         }
     }
 }
@@ -228,14 +237,18 @@ fn handed_out(capture: &[u8], place: u64, wrong: Wrong) -> Result<Option<u8>, Re
     Ok(Some(octet))
 }
 
-/// Number, place, 1 for an event and 0 else, the event, and the reader's place then.
-pub fn hand(capture: &[u8], place: u64, wrong: Wrong) -> [u64; 5] {
+/// Number, place, second place, 1 for an event and 0 else, the event, and the reader's place then.
+pub fn hand(capture: &[u8], place: u64, wrong: Wrong) -> [u64; 6] {
+    let second = if wrong == Wrong::ThereForSecond { 1 } else { 0 };
     match handed_out(capture, place, wrong) {
-        Ok(Some(event)) => [0, 0, 1, event as u64, if wrong == Wrong::EventNotPassed { place } else { place + 1 }],
-        Ok(None) => [0, 0, 0, 0, if wrong == Wrong::EndPassed { place.wrapping_add(1) } else { place }],
+        Ok(Some(event)) => {
+            let then = if wrong == Wrong::EventNotPassed { place } else { place + 1 };
+            [0, 0, second, 1, event as u64, then]
+        }
+        Ok(None) => [0, 0, 0, 0, 0, if wrong == Wrong::EndPassed { place.wrapping_add(1) } else { place }],
         Err(refusal) => {
             let then = if wrong == Wrong::RefusalPassed { place.wrapping_add(1) } else { place };
-            [refusal.number, refusal.place, 0, 0, then]
+            [refusal.number, refusal.place, refusal.second, 0, 0, then]
         }
     }
 }
@@ -258,26 +271,26 @@ mod tests {
     fn both_orders_hold_the_same() {
         for capture in [LEAST, MOST] {
             let imported = import(&capture, 4, Wrong::Nothing);
-            assert_eq!(imported, Imported { told: [0, 0, 2], events: vec![0, 128, UNTOUCHED, UNTOUCHED] });
-            assert_eq!(hand(&capture, 0, Wrong::Nothing), [0, 0, 1, 0, 1]);
-            assert_eq!(hand(&capture, 1, Wrong::Nothing), [0, 0, 1, 128, 2]);
-            assert_eq!(hand(&capture, 2, Wrong::Nothing), [0, 0, 0, 0, 2]);
+            assert_eq!(imported, Imported { told: [0, 0, 0, 2], events: vec![0, 128, UNTOUCHED, UNTOUCHED] });
+            assert_eq!(hand(&capture, 0, Wrong::Nothing), [0, 0, 0, 1, 0, 1]);
+            assert_eq!(hand(&capture, 1, Wrong::Nothing), [0, 0, 0, 1, 128, 2]);
+            assert_eq!(hand(&capture, 2, Wrong::Nothing), [0, 0, 0, 0, 0, 2]);
         }
     }
 
     #[test]
     fn refusals_have_their_places() {
         let told = |capture: &[u8], room: usize| import(capture, room, Wrong::Nothing).told;
-        assert_eq!(told(&LEAST[..23], 4), [15, 0, 0]);
-        assert_eq!(told(&LEAST[..24], 0), [0, 0, 0]);
-        assert_eq!(told(&LEAST[..57], 4), [16, 1, 0]);
-        assert_eq!(told(&LEAST, 1), [10, 2, 0]);
+        assert_eq!(told(&LEAST[..23], 4), [15, 0, 0, 0]);
+        assert_eq!(told(&LEAST[..24], 0), [0, 0, 0, 0]);
+        assert_eq!(told(&LEAST[..57], 4), [16, 1, 0, 0]);
+        assert_eq!(told(&LEAST, 1), [10, 2, 0, 0]);
         let mut strange = LEAST;
         strange[40] = 16;
-        assert_eq!(told(&strange, 4), [7, 0, 0]);
+        assert_eq!(told(&strange, 4), [7, 0, 0, 0]);
         strange[49] = 2;
-        assert_eq!(told(&strange, 4), [16, 1, 0]);
-        assert_eq!(hand(&strange, 0, Wrong::Nothing), [7, 0, 0, 0, 0]);
-        assert_eq!(hand(&strange, 1, Wrong::Nothing), [16, 1, 0, 0, 1]);
+        assert_eq!(told(&strange, 4), [16, 1, 0, 0]);
+        assert_eq!(hand(&strange, 0, Wrong::Nothing), [7, 0, 0, 0, 0, 0]);
+        assert_eq!(hand(&strange, 1, Wrong::Nothing), [16, 1, 0, 0, 0, 1]);
     }
 }

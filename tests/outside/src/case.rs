@@ -33,7 +33,7 @@ pub enum Answer {
     Read(Answered),
     List(Listed),
     Import(Imported),
-    Hand([u64; 5]),
+    Hand([u64; 6]),
     Write(Written),
     Standard(Given),
 }

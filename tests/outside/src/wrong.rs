@@ -112,6 +112,8 @@ wrong_monitors! {
     EventNotPassed: "stays at an event",
     EndPassed: "moves on from the end",
     RefusalPassed: "moves on from a refused record",
+    CountForSecond: "tells the events of an import in place of the second place",
+    ThereForSecond: "tells whether there is an event in place of the second place",
     // Written files.
     CutToBytes: "cuts counts and bounds to a byte before it tests them",
     RoomFirst: "tests 10 before all other numbers",
@@ -132,11 +134,11 @@ wrong_monitors! {
     ClearsRest: "sets later bytes of a buffer to 0",
     TellsWhenRefused: "tells counts of a refused file",
     RefusedOpeningKept: "hands out a session with a refused opening",
-    RefusedFeedCleared: "hands out a session of zeros with a refused feed",
-    // The listing.
     RefusedOpeningCleared: "puts zeros over the session with a refused opening",
     RefusedOpeningClearsWords: "puts zeros over the session's words with a refused opening",
     RefusedOpeningClearsBytes: "puts zeros over the session's bytes with a refused opening",
+    RefusedFeedCleared: "hands out a session of zeros with a refused feed",
+    // The listing.
     ListingStops: "leaves out the events after the flag",
     ListingShouts: "writes upper-case digits",
     ListingOneDash: "writes one dash for both pairs",

@@ -15,8 +15,8 @@ event-requires c κs = search needs
 cast-t6 : tie.Need-cast-t6
 cast-t6 c = search needs
 
-cast-t8 : tie.Need-cast-t8
-cast-t8 c = search needs
+cast-t9 : tie.Need-cast-t9
+cast-t9 c = search needs
 
 returns : tie.Need-returns
 returns c = rw (c .before .before .before .told-taken .ensures, c .before .before .event-told .ensures, c .before .event .ensures)
@@ -24,4 +24,4 @@ returns c = rw (c .before .before .before .told-taken .ensures, c .before .befor
 pub of-hand-spec : {M : Type 1} → statement M
 of-hand-spec =
     tie.close
-    (tie.spec told-taken-requires event-told-requires event-requires cast-t6 cast-t8 returns)
+    (tie.spec told-taken-requires event-told-requires event-requires cast-t6 cast-t9 returns)
