@@ -12,10 +12,12 @@
  *   - memory that is written to lies over no other memory of the same call. Memory that is only read may.
  * Whatever stands in that memory, and whatever the numbers are, the function answers, and reads and writes nothing else.
  *
- * ANSWERS. A function answers false exactly when the memory lent for a session or for the results is shorter than it must be (the
- * constants below); then nothing is written. Else it answers true, and the results begin with RILLMOTH_NUMBER: 0, or the number of a
- * refusal. A refusal is an ordinary answer: it tells a number and its places, and judges nothing. Results beyond those that a function
- * has keep their values.
+ * ANSWERS. rillmoth_list answers a number (enum rillmoth_outcome). Each other function answers false exactly when memory of which the
+ * constants below say how long it must be is shorter: of rillmoth_open and rillmoth_feed the session's words or bytes, or the results; of
+ * rillmoth_standard its rows; of all others the results. Then nothing is written. Else it answers true, and the results, of which
+ * rillmoth_standard has none, begin with RILLMOTH_NUMBER, RILLMOTH_PLACE and RILLMOTH_SECOND: zeros, or a refusal's number and places. A
+ * refusal is an ordinary answer: it judges nothing, writes the results and nothing else, and leaves a session and every buffer as they
+ * were. Results beyond those that a function has keep their values.
  *
  * For 64-bit processors: size_t has 64 bits. */
 #ifndef RILLMOTH_H

@@ -1,8 +1,8 @@
 // Whole traces and whole files for programs in other languages: runs, the reader of house files, and the listing. Numbers and lent slices
-// only. A slice is passed as its address and its count of elements. The address is not null, also where the count is 0, and no slice that
-// is written to lies over another. Nothing else is asked: every function answers every input. It answers false exactly when the memory lent
-// for its results is too short, and then nothing is written; a refusal is an answer of true, with its number in the results.
-// specs/Results.antt says what the results are, and specs/Doors.antt what each function does.
+// only. A slice is passed as its address, which may be null where the count is 0, and its count of elements. No slice that is written to
+// lies over another. Nothing else is asked: every function answers every input. A run and the reader answer false exactly when the memory
+// lent for their results is too short, and then nothing is written; a refusal is an answer of true, with its number in the results. The
+// listing has no results, and answers a number. specs/Results.antt says what the results are, and specs/Doors.antt what each function does.
 ghost use mathlib.Core.Path.{_≡_};
 ghost use Prim.Native.Nat.{_≤_};
 ghost use Rattle.filedoors.specs.Doors.{Running, Read, outcome-number};
@@ -75,7 +75,8 @@ fn outcome(o: Outcome) -> u8
 }
 
 // Lists the house file that one descriptor gives to its end; the listing goes to the other. 0: consistent; 1: flagged; 2: refused; 3: the
-// input could not be read or the listing not written.
+// input could not be read or the listing not written. A call of the system that fails, whatever the reason, is not made again; so a signal
+// that interrupts it and a descriptor that is not ready count as failures.
 #[no_mangle]
 pub extern "C" fn rillmoth_list(input: i32, output: i32) -> u8
     ensures { λ r. ⌜ r ≤ 3 ⌝ }

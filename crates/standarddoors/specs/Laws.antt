@@ -1,9 +1,19 @@
--- What is shown of the function, under one sentence. proofs/Laws.antt proves it. Assumes nothing.
+-- What is shown of the function, each under one sentence. proofs/Laws.antt proves them all. Assumes nothing.
 use mathlib.Core.Path.{_≡_}
-use mathlib.Core.Bool.{Bool}
+use mathlib.Core.Bool.{Bool, false}
 use mathlib.Core.List.{List}
-use Prim.Native.Nat.{ℕ}
-use Rattle.standarddoors.specs.Results.{Giving}
+use mathlib.Core.Logic.{_↔_}
+use Prim.Native.Nat.{ℕ, _<_}
+use lib.ListN.{length}
+use Rattle.standarddoors.specs.Results.{rows-size, Giving}
+
+-- It answers false exactly when the memory is shorter than the rows are;
+abbrev pub FalseWhenShort : Type 0
+FalseWhenShort = (d : List ℕ) (a : Bool) (d′ : List ℕ) → Giving d a d′ → a ≡ false ↔ (length d < rows-size)
+
+-- and then nothing is written.
+abbrev pub FalseKeeps : Type 0
+FalseKeeps = (d d′ : List ℕ) → Giving d false d′ → d′ ≡ d
 
 -- Of one input there is one answer, and one content of the memory that was lent.
 abbrev pub OneGiving : Type 0

@@ -1,5 +1,5 @@
 // The standard box for programs in other languages, as the crate `sessiondoors` has sessions for them: numbers and lent slices only. A slice is
-// passed as its address and its count of elements; the address is not null, also where the count is 0. Nothing else is asked.
+// passed as its address, which may be null where the count is 0, and its count of elements. Nothing else is asked.
 ghost use Rattle.standarddoors.specs.Results.{Giving};
 
 // Puts the rows of the standard box at the start of the memory lent. It answers false exactly when that is shorter than they are, and then
