@@ -7,7 +7,7 @@
  * MEMORY. Every function works on memory that you lend, and keeps nothing. There is no allocation, no state between calls and no
  * thread: two threads may call at once, each with memory of its own to write to. A slice is an address and a count of elements (for
  * words: of words, not of bytes). You promise this, and nothing else:
- *   - the address is not null, also where the count is 0, and that many elements may be read there, or written where it is not const;
+ *   - that many elements may be read at the address, or written where it is not const. Where the count is 0 the address may be null;
  *   - words (uint64_t) lie at an address that is a multiple of 8;
  *   - memory that is written to lies over no other memory of the same call. Memory that is only read may.
  * Whatever stands in that memory, and whatever the numbers are, the function answers, and reads and writes nothing else.

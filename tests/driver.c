@@ -25,7 +25,7 @@
 // Other memory that a function is to write to holds the byte 0xAA throughout before, so that what was left alone can be told.
 //
 // Input that ends inside a request ends the program with status 1; a request that is none of these, a length above 64 MiB, memory that
-// is refused, or an answer of false to another request than 10, with status 2.
+// is refused, or an answer of false to another request than 10, with status 2. Memory of no length is lent at a null address.
 //
 // The C library is declared here and not by its headers, so that the kit's compiler needs nothing else to build this.
 
@@ -44,7 +44,7 @@ void *memcpy(void *to, const void *from, size_t count);
 void *memset(void *to, int byte, size_t count);
 _Noreturn void _exit(int status);
 
-// A slice is passed as its address and its count of elements. The address is not null, also where the count is 0.
+// A slice is passed as its address and its count of elements.
 _Bool rillmoth_open(const u8 *rows, size_t rows_len, size_t states, size_t inputs, size_t outputs, size_t waiting, size_t losses,
                     u64 *words, size_t words_len, u8 *bytes, size_t bytes_len, u64 *told, size_t told_len);
 _Bool rillmoth_feed(u64 *words, size_t words_len, u8 *bytes, size_t bytes_len, u8 byte, u64 *told, size_t told_len);
@@ -125,17 +125,17 @@ struct bytes {
     size_t count;
 };
 
-// One byte more than asked for, so that the address is not null where none is.
+// Where there is none, the address is null.
 static struct bytes room(u64 count) {
     if (count > MOST) end(BAD_REQUEST);
-    struct bytes b = {malloc(count + 1), count};
-    if (!b.at) end(BAD_REQUEST);
+    struct bytes b = {0, count};
+    if (count > 0 && !(b.at = malloc(count))) end(BAD_REQUEST);
     return b;
 }
 
 static struct bytes untouched(u64 count) {
     struct bytes b = room(count);
-    memset(b.at, UNTOUCHED, count);
+    if (count > 0) memset(b.at, UNTOUCHED, count);
     return b;
 }
 
@@ -292,7 +292,17 @@ static void standard(void) {
     free(out.at);
 }
 
+// With no memory at all, at null, every function that has results or rows to give answers false, and the driver serves nothing else.
+static void nothing(void) {
+    _Bool any = rillmoth_open(0, 0, 2, 1, 2, 2, 1, 0, 0, 0, 0, 0, 0) || rillmoth_feed(0, 0, 0, 0, 0, 0, 0) ||
+                rillmoth_run(0, 0, 2, 1, 2, 2, 1, 0, 0, 0, 0, 0, 0) || rillmoth_read(0, 0, 0, 0, 0, 0, 0, 0) ||
+                rillmoth_import(0, 0, 0, 0, 0, 0) || rillmoth_hand(0, 0, 0, 0, 0) ||
+                rillmoth_write(1, 0, 0, 64, 16, 16, 2, 1, 0, 0, 0, 0, 0, 0) || rillmoth_standard(0, 0);
+    if (any) end(BAD_REQUEST);
+}
+
 int main(void) {
+    nothing();
     while (input_at < input_end || more()) {
         switch (number()) {
             case 1: open(); break;

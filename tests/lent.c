@@ -1,13 +1,13 @@
 /* Lends every function of the library memory that is one element too short, and memory that is exactly long enough, by the constants of
- * include/rillmoth.h: the first is answered with false and nothing is written, the second with true. Beyond what a function writes, and
- * where it is refused, memory keeps its values. The last line is 'N passed, M failed'. */
+ * include/rillmoth.h: the first is answered with false and nothing is written, the second with true. Memory without elements may lie at
+ * null. Beyond what a function writes, and where it is refused, memory keeps its values. The last line is 'N passed, M failed'. */
 #include <stdio.h>
 #include <stdlib.h>
 #include <string.h>
 
 #include "rillmoth.h"
 
-enum { UNTOUCHED = 0xAA, MOST = 8192 };
+enum { UNTOUCHED = 0xAA, MOST = 8192, FILE_BYTES = 3 * 512 /* of the file that is written here */ };
 
 static int passed, failed;
 
@@ -104,7 +104,7 @@ static const struct {
     {"rillmoth_feed", feed_in, RILLMOTH_SESSION_WORDS, RILLMOTH_SESSION_BYTES, RILLMOTH_FEED_RESULTS, 0, false},
     {"rillmoth_run", run_in, 0, 0, RILLMOTH_RUN_RESULTS, sizeof trace * RILLMOTH_LINE_BYTES, false},
     {"rillmoth_read", read_in, 0, sizeof rows, RILLMOTH_READ_RESULTS, sizeof trace, false},
-    {"rillmoth_write", write_in, 0, 0, RILLMOTH_WRITE_RESULTS, 3 * 512, false},
+    {"rillmoth_write", write_in, 0, 0, RILLMOTH_WRITE_RESULTS, FILE_BYTES, false},
     {"rillmoth_import", import_in, 0, 0, RILLMOTH_IMPORT_RESULTS, 1, false},
     {"rillmoth_hand", hand_in, 0, 0, RILLMOTH_HAND_RESULTS, 0, false},
     {"rillmoth_standard", standard_in, 0, 0, 0, RILLMOTH_MOST_ROW_BYTES, true},
@@ -124,6 +124,126 @@ static void try_one(size_t i, size_t words, size_t bytes, size_t results, size_t
     give_back(&m);
 }
 
+/* A slice without elements, at null and at an address that is there. */
+struct slice {
+    void *at;
+    size_t count;
+};
+
+static bool open_of(const struct slice *s) {
+    return rillmoth_open(s[0].at, s[0].count, 2, 1, 2, 2, 1, s[1].at, s[1].count, s[2].at, s[2].count, s[3].at, s[3].count);
+}
+
+static bool feed_of(const struct slice *s) { return rillmoth_feed(s[0].at, s[0].count, s[1].at, s[1].count, 0, s[2].at, s[2].count); }
+
+static bool run_of(const struct slice *s) {
+    return rillmoth_run(s[0].at, s[0].count, 2, 1, 2, 2, 1, s[1].at, s[1].count, s[2].at, s[2].count, s[3].at, s[3].count);
+}
+
+static bool read_of(const struct slice *s) {
+    return rillmoth_read(s[0].at, s[0].count, s[1].at, s[1].count, s[2].at, s[2].count, s[3].at, s[3].count);
+}
+
+static bool write_of(const struct slice *s) {
+    return rillmoth_write(RILLMOTH_SOURCE_ROWS, s[0].at, s[0].count, 2, 1, 2, 2, 1, s[1].at, s[1].count, s[2].at, s[2].count, s[3].at,
+                          s[3].count);
+}
+
+/* With the standard box a file has no rows, and so a good one can be written of nothing but its counts. */
+static bool write_standard_of(const struct slice *s) {
+    return rillmoth_write(RILLMOTH_SOURCE_STANDARD, s[0].at, s[0].count, 64, 16, 16, 2, 1, s[1].at, s[1].count, s[2].at, s[2].count,
+                          s[3].at, s[3].count);
+}
+
+static bool import_of(const struct slice *s) {
+    return rillmoth_import(s[0].at, s[0].count, s[1].at, s[1].count, s[2].at, s[2].count);
+}
+
+static bool hand_of(const struct slice *s) { return rillmoth_hand(s[0].at, s[0].count, 0, s[1].at, s[1].count); }
+
+static bool standard_of(const struct slice *s) { return rillmoth_standard(s[0].at, s[0].count); }
+
+enum { MOST_SLICES = 4 };
+
+/* Each function, and of each of its slices what lies there before, untouched memory where nothing is named; how many elements, how long
+ * they are, and whether the answer is false where there are none. */
+static const struct {
+    const char *name;
+    bool (*call)(const struct slice *);
+    struct {
+        const void *before;
+        size_t count, size;
+        bool decides;
+    } of[MOST_SLICES];
+} doors[] = {
+    {"rillmoth_open",
+     open_of,
+     {{rows, sizeof rows, 1, false},
+      {NULL, RILLMOTH_SESSION_WORDS, 8, true},
+      {NULL, RILLMOTH_SESSION_BYTES, 1, true},
+      {NULL, RILLMOTH_OPEN_RESULTS, 8, true}}},
+    {"rillmoth_feed",
+     feed_of,
+     {{NULL, RILLMOTH_SESSION_WORDS, 8, true}, {NULL, RILLMOTH_SESSION_BYTES, 1, true}, {NULL, RILLMOTH_FEED_RESULTS, 8, true}}},
+    {"rillmoth_run",
+     run_of,
+     {{rows, sizeof rows, 1, false},
+      {trace, sizeof trace, 1, false},
+      {NULL, sizeof trace * RILLMOTH_LINE_BYTES, 1, false},
+      {NULL, RILLMOTH_RUN_RESULTS, 8, true}}},
+    {"rillmoth_read",
+     read_of,
+     {{file, FILE_BYTES, 1, false}, {NULL, sizeof rows, 1, false}, {NULL, sizeof trace, 1, false}, {NULL, RILLMOTH_READ_RESULTS, 8, true}}},
+    {"rillmoth_write",
+     write_of,
+     {{rows, sizeof rows, 1, false},
+      {trace, sizeof trace, 1, false},
+      {NULL, FILE_BYTES, 1, false},
+      {NULL, RILLMOTH_WRITE_RESULTS, 8, true}}},
+    {"rillmoth_write of the standard box",
+     write_standard_of,
+     {{rows, sizeof rows, 1, false},
+      {trace, sizeof trace, 1, false},
+      {NULL, FILE_BYTES, 1, false},
+      {NULL, RILLMOTH_WRITE_RESULTS, 8, true}}},
+    {"rillmoth_import",
+     import_of,
+     {{capture, sizeof capture, 1, false}, {NULL, 1, 1, false}, {NULL, RILLMOTH_IMPORT_RESULTS, 8, true}}},
+    {"rillmoth_hand", hand_of, {{capture, sizeof capture, 1, false}, {NULL, RILLMOTH_HAND_RESULTS, 8, true}}},
+    {"rillmoth_standard", standard_of, {{NULL, RILLMOTH_MOST_ROW_BYTES, 1, true}}},
+};
+
+/* One function with these of its slices empty, a bit each: at null it answers and leaves what it does at another address, and it answers
+ * false exactly where one of them decides. */
+static void try_empty(size_t i, unsigned empty) {
+    static uint64_t nothing;
+    struct slice there[MOST_SLICES] = {{NULL, 0}}, null[MOST_SLICES] = {{NULL, 0}};
+    bool answer = true, same = true;
+    char text[128];
+    for (size_t k = 0; k < MOST_SLICES; k++) {
+        size_t length = doors[i].of[k].count * doors[i].of[k].size;
+        if (empty >> k & 1) {
+            there[k].at = &nothing;
+            answer = answer && !doors[i].of[k].decides;
+            continue;
+        }
+        there[k].count = null[k].count = doors[i].of[k].count;
+        there[k].at = untouched(length), null[k].at = untouched(length);
+        if (doors[i].of[k].before) memcpy(there[k].at, doors[i].of[k].before, length), memcpy(null[k].at, doors[i].of[k].before, length);
+    }
+    snprintf(text, sizeof text, "%s, empty slices %x: another answer", doors[i].name, empty);
+    check(doors[i].call(there) == answer, text);
+    snprintf(text, sizeof text, "%s, empty slices %x at null: another answer", doors[i].name, empty);
+    check(doors[i].call(null) == answer, text);
+    for (size_t k = 0; k < MOST_SLICES; k++) {
+        if (empty >> k & 1) continue;
+        same = same && !memcmp(there[k].at, null[k].at, doors[i].of[k].count * doors[i].of[k].size);
+        free(there[k].at), free(null[k].at);
+    }
+    snprintf(text, sizeof text, "%s, empty slices %x at null: something else was written", doors[i].name, empty);
+    check(same && nothing == 0, text);
+}
+
 int main(void) {
     uint64_t results[RILLMOTH_RESULTS];
     (void)rillmoth_write(RILLMOTH_SOURCE_ROWS, rows, sizeof rows, 2, 1, 2, 2, 1, trace, sizeof trace, file, sizeof file, results,
@@ -141,10 +261,17 @@ int main(void) {
         if (functions[i].out_decides) try_one(i, words, bytes, count, out - 1, false, "rows too short");
     }
 
+    check(file_count == FILE_BYTES, "a file has another length");
+    for (size_t i = 0; i < sizeof doors / sizeof *doors; i++) {
+        unsigned slices = 0;
+        while (slices < MOST_SLICES && doors[i].of[slices].count > 0) slices++;
+        for (unsigned empty = 0; empty < 1u << slices; empty++) try_empty(i, empty);
+    }
+
     /* A short buffer for bytes is a refusal, which tells the length needed and writes nothing else. */
     static const struct {
         size_t function, needed;
-    } rooms[] = {{2, sizeof trace * RILLMOTH_LINE_BYTES}, {3, sizeof trace}, {4, 3 * 512}, {5, 1}};
+    } rooms[] = {{2, sizeof trace * RILLMOTH_LINE_BYTES}, {3, sizeof trace}, {4, FILE_BYTES}, {5, 1}};
     for (size_t i = 0; i < sizeof rooms / sizeof *rooms; i++) {
         struct memory m = lend(0, functions[rooms[i].function].bytes, RILLMOTH_RESULTS, rooms[i].needed - 1);
         check(functions[rooms[i].function].call(&m), "a short buffer is answered with false");
@@ -153,6 +280,47 @@ int main(void) {
         check(all_untouched(m.out, m.out_count) && all_untouched(m.bytes, m.bytes_count), "a refusal writes to a buffer");
         give_back(&m);
     }
+
+    /* A refused opening writes its results alone: memory that was never opened is what it was, and a session that lived there goes on. */
+    struct memory n = lend(RILLMOTH_SESSION_WORDS, RILLMOTH_SESSION_BYTES, RILLMOTH_RESULTS, 0);
+    static const struct {
+        size_t states, inputs, waiting, losses;
+        uint64_t number, place;
+    } refused[] = {{0, 1, 2, 1, RILLMOTH_BAD_STATES, 0},         {2, 17, 2, 1, RILLMOTH_BAD_SYMBOLS, 17},
+                   {3, 1, 2, 1, RILLMOTH_BAD_ROWS, sizeof rows}, {2, 1, 0, 1, RILLMOTH_BAD_WAITING, 0},
+                   {2, 1, 33, 1, RILLMOTH_BAD_WAITING, 33},      {2, 1, 2, 9, RILLMOTH_BAD_LOSSES, 9}};
+    uint64_t words_before[RILLMOTH_SESSION_WORDS];
+    uint8_t bytes_before[RILLMOTH_SESSION_BYTES];
+    for (int lives = 0; lives < 2; lives++) {
+        if (lives) check(open_in(&n) && feed_in(&n) && n.results[RILLMOTH_NUMBER] == RILLMOTH_NOT_REFUSED, "a session is refused");
+        memcpy(words_before, n.words, sizeof words_before);
+        memcpy(bytes_before, n.bytes, sizeof bytes_before);
+        for (size_t i = 0; i < sizeof refused / sizeof *refused; i++) {
+            memset(n.results, UNTOUCHED, 8 * n.results_count);
+            check(rillmoth_open(rows, sizeof rows, refused[i].states, refused[i].inputs, 2, refused[i].waiting, refused[i].losses, n.words,
+                                n.words_count, n.bytes, n.bytes_count, n.results, n.results_count),
+                  "a refused opening is answered with false");
+            check(n.results[RILLMOTH_NUMBER] == refused[i].number && n.results[RILLMOTH_PLACE] == refused[i].place &&
+                      n.results[RILLMOTH_SECOND] == 0,
+                  "a refused opening tells something else");
+            check(!memcmp(words_before, n.words, sizeof words_before), "a refused opening writes to the words");
+            check(!memcmp(bytes_before, n.bytes, sizeof bytes_before), "a refused opening writes to the bytes");
+        }
+    }
+    check(feed_in(&n) && n.results[RILLMOTH_NUMBER] == RILLMOTH_NOT_REFUSED && n.words[RILLMOTH_EVENTS] == 2,
+          "a session does not go on after a refused opening");
+    give_back(&n);
+
+    /* Number, place and second place come first wherever there are results, and what a function has besides comes after. */
+    struct memory o = lend(0, 0, RILLMOTH_RESULTS, 1);
+    check(import_in(&o) && o.results[RILLMOTH_SECOND] == 0 && o.results[RILLMOTH_IMPORT_EVENTS] == 1 && o.out[0] == 5,
+          "an import tells something else");
+    check(hand_in(&o) && o.results[RILLMOTH_SECOND] == 0 && o.results[RILLMOTH_HAND_THERE] == 1 && o.results[RILLMOTH_HAND_EVENT] == 5 &&
+              o.results[RILLMOTH_HAND_NEXT] == 1,
+          "a reader tells something else");
+    check(all_untouched(o.results + RILLMOTH_HAND_RESULTS, 8 * (RILLMOTH_RESULTS - RILLMOTH_HAND_RESULTS)),
+          "results beyond are written to");
+    give_back(&o);
 
     /* Longer memory keeps what is beyond. */
     struct memory m = lend(RILLMOTH_SESSION_WORDS + 3, RILLMOTH_SESSION_BYTES + 5, RILLMOTH_RESULTS, 0);

@@ -1,7 +1,7 @@
 //! The functions of librillmoth.a, as include/rillmoth.h has them, over slices. All that is not safe is here.
 //!
-//! A slice of Rust is what the library asks for: its address is never null, its elements may be read, and no slice that may be written
-//! to lies over another. Each function answers whether the memory for a session and for the results was long enough.
+//! A slice of Rust is what the library asks for: its elements may be read, and no slice that may be written to lies over another. Each
+//! function that answers a bool answers whether the memory for a session, for the results or for the standard box's rows was long enough.
 #![allow(unsafe_code)]
 
 use crate::{Bounds, Table};

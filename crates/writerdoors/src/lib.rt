@@ -1,7 +1,7 @@
 // The writer of house files for programs in other languages, as the crate `sessiondoors` has sessions for them: numbers and lent slices only. A
-// slice is passed as its address and its count of elements. The address is not null, also where the count is 0, and no slice that is
-// written to lies over another. Nothing else is asked: every input is answered. The answer is false exactly when the memory lent for
-// the results is too short, and then nothing is written; a refusal is an answer of true, with its number in the results.
+// slice is passed as its address, which may be null where the count is 0, and its count of elements. No slice that is written to lies over
+// another. Nothing else is asked: every input is answered. The answer is false exactly when the memory lent for the results is too short,
+// and then nothing is written; a refusal is an answer of true, with its number in the results.
 ghost use mathlib.Core.Path.{_≡_};
 ghost use Rattle.table.specs.Refusals.{told-at};
 ghost use Rattle.writer.specs.Refusals.{told-of, length-of};
