@@ -204,7 +204,13 @@ bool rillmoth_import(const uint8_t *capture, size_t capture_count, uint8_t *even
 bool rillmoth_hand(const uint8_t *capture, size_t capture_count, size_t place, uint64_t *results, size_t results_count);
 
 /* Lists the house file that the descriptor `input` gives to its end, as text to the descriptor `output` (README.md, "Reading a
- * listing"). The only function that calls the system: it reads and writes. */
+ * listing"). The only function that calls the system: it reads and writes. It answers one of enum rillmoth_outcome.
+ *
+ * It waits as the descriptors do. A read or a write that fails is taken as failed, whatever errno says, and is not tried again: EINTR (a
+ * handler without SA_RESTART ran before a byte moved) and EAGAIN (a descriptor with O_NONBLOCK is not ready) too. After a failed read the
+ * answer is RILLMOTH_BROKEN and nothing was written, unless the input then ends without another byte: then all of it was read, and it is
+ * listed. After a failed write the answer is RILLMOTH_BROKEN, and the text may be there in part. What was read is gone in either case. So
+ * hand over descriptors that wait, with handlers that restart. A write to a pipe that nobody reads raises SIGPIPE, as any write does. */
 enum rillmoth_outcome {
     RILLMOTH_CONSISTENT = 0,
     RILLMOTH_FLAGGED = 1,

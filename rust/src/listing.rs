@@ -17,6 +17,11 @@ pub enum Outcome {
 }
 
 /// Lists the house file that `input` gives to its end, as text to `output`. Neither is buffered here: flush what is before.
+///
+/// It waits as the two do. A read or a write that fails is not tried again, also where a signal interrupted it or the file is not ready
+/// (`ErrorKind::Interrupted`, `ErrorKind::WouldBlock`). After a failed read it is [`Outcome::Broken`] and nothing was written, unless the
+/// input then ends without another byte: then all of it was read, and it is listed. After a failed write it is [`Outcome::Broken`], and
+/// the text may be there in part.
 pub fn list(input: &impl AsFd, output: &impl AsFd) -> Outcome {
     match doors::list(input.as_fd().as_raw_fd(), output.as_fd().as_raw_fd()) {
         0 => Outcome::Consistent,
