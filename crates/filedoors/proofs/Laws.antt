@@ -7,13 +7,31 @@ use Rattle.run.specs.declared.Ran.{Ran}
 use Rattle.run.proofs.Laws.{one-run}
 use Rattle.house.specs.declared.answer.Reading.{Reading}
 use Rattle.house.proofs.Laws.{one-reading}
-use Rattle.filedoors.specs.Results.{run-results, read-results}
+use lib.ListN.{length}
+use borrow.Author.Tests.{leb-false, lt-leb}
+use Rattle.filedoors.specs.Results.{run-size, run-results, read-size, read-results}
 use Rattle.filedoors.specs.Doors as doors
-use Rattle.filedoors.specs.Laws.{OneRunning, OneRead}
+use Rattle.filedoors.specs.Laws.{RunningFalse, ReadFalse, RunningFalseKeeps, ReadFalseKeeps, OneRunning, OneRead}
 
 -- memory is not both too short and long enough
 not-both : {A : Type 0} {r : Bool} → r ≡ false → r ≡ true → A
 not-both e f = let h = sym e ∙ f in clash (cc)
+
+pub running-false : RunningFalse
+running-false rows s i o B c trace out t a out′ t′ (doors.short e) = (λ _. leb-false run-size (length t) e, λ _. refl)
+running-false rows s i o B c trace out t a out′ t′ (doors.ran e f) =
+    (λ h. not-both h refl, λ h. not-both (lt-leb run-size (length t) h) e)
+
+pub read-false : ReadFalse
+read-false file rows events t a rows′ events′ t′ (doors.short e) = (λ _. leb-false read-size (length t) e, λ _. refl)
+read-false file rows events t a rows′ events′ t′ (doors.read e f) =
+    (λ h. not-both h refl, λ h. not-both (lt-leb read-size (length t) h) e)
+
+pub running-false-keeps : RunningFalseKeeps
+running-false-keeps rows s i o B c trace out t out′ t′ (doors.short e) = (refl, refl)
+
+pub read-false-keeps : ReadFalseKeeps
+read-false-keeps file rows events t rows′ events′ t′ (doors.short e) = (refl, refl, refl)
 
 pub one-running : OneRunning
 one-running rows s i o B c trace out t a₁ a₂ out₁ t₁ out₂ t₂ (doors.short e) (doors.short e′) = (refl, refl, refl)

@@ -1,7 +1,9 @@
 -- Every statement of specs/Laws.antt, proved, under one roof: other crates take the laws from here. Assumes nothing.
 use Rattle.sessiondoors.specs.Laws.{SessionBack, SessionLies, WordsBack, BytesBack, WordsKept, BytesKept, OpenedLies, RefusedOpeningKeeps, FedLies, RefusedKeeps, OneOpening, OneFeeding}
+use Rattle.sessiondoors.specs.Laws.{OpeningFalse, FeedingFalse, OpeningFalseKeeps, FeedingFalseKeeps}
 use Rattle.sessiondoors.proofs.Lies
 use Rattle.sessiondoors.proofs.After
+use Rattle.sessiondoors.proofs.Short
 use Rattle.sessiondoors.proofs.Unique
 
 -- The layout.
@@ -35,6 +37,19 @@ fed-lies = After.fed-lies
 
 pub refused-keeps : RefusedKeeps
 refused-keeps = After.refused-keeps
+
+-- When false.
+pub opening-false : OpeningFalse
+opening-false = Short.opening-false
+
+pub feeding-false : FeedingFalse
+feeding-false = Short.feeding-false
+
+pub opening-false-keeps : OpeningFalseKeeps
+opening-false-keeps = Short.opening-false-keeps
+
+pub feeding-false-keeps : FeedingFalseKeeps
+feeding-false-keeps = Short.feeding-false-keeps
 
 -- One answer.
 pub one-opening : OneOpening

@@ -7,3 +7,4 @@ mod Lies
 mod Kept
 mod After
 mod Unique
+mod Short

@@ -15,7 +15,7 @@ use Rattle.sessiondoors.specs.Doors as doors
 use Rattle.sessiondoors.specs.Laws.{OneOpening, OneFeeding}
 
 -- memory is not both too short and long enough
-not-both : {A : Type 0} {r : Bool} → r ≡ false → r ≡ true → A
+pub not-both : {A : Type 0} {r : Bool} → r ≡ false → r ≡ true → A
 not-both e f = let h = sym e ∙ f in clash (cc)
 
 -- nothing is both passed and refused

@@ -1,15 +1,16 @@
 -- What is shown of the layout and of the functions, each under one sentence. proofs/Laws.antt proves them all. Assumes nothing.
 use mathlib.Core.Path.{_≡_}
-use mathlib.Core.Bool.{Bool, true}
+use mathlib.Core.Bool.{Bool, true, false}
 use mathlib.Core.List.{List}
-use Prim.Native.Nat.{ℕ, _≤_}
+use mathlib.Core.Logic.{_⊎_, _↔_}
+use Prim.Native.Nat.{ℕ, _≤_, _<_}
 use lib.ListN.{length, getD}
 use Rattle.session.specs.declared.Session.{Session}
 use Rattle.session.specs.Open.{opened}
 use Rattle.monitor.specs.Feed.{FedTo}
 use Rattle.lent.specs.Lent.{front}
 use Rattle.sessiondoors.specs.Layout.{session-words, session-bytes, words-of, bytes-of, session-in}
-use Rattle.sessiondoors.specs.Doors.{Opens, Feeding}
+use Rattle.sessiondoors.specs.Doors.{test-size, Opens, Feeding}
 
 -- THE LAYOUT
 
@@ -71,6 +72,32 @@ abbrev pub RefusedKeeps : Type 0
 RefusedKeeps =
     (w b : List ℕ) (byte : ℕ) (t w′ b′ t′ : List ℕ) → Feeding w b byte t true w′ b′ t′ → (getD t′ 0 0 ≡ 0 → ⊥)
     → (w′ ≡ w) × (b′ ≡ b)
+
+-- WHEN FALSE
+
+-- Memory for the session or for the results is shorter than its layout.
+abbrev pub Short : List ℕ → List ℕ → List ℕ → Type 0
+Short w b t = (length w < session-words) ⊎ ((length b < session-bytes) ⊎ (length t < test-size))
+
+-- A function answers false exactly then,
+abbrev pub OpeningFalse : Type 0
+OpeningFalse =
+    (rows : List ℕ) (s i o B c : ℕ) (w b t : List ℕ) (a : Bool) (w′ b′ t′ : List ℕ) → Opens rows s i o B c w b t a w′ b′ t′
+    → a ≡ false ↔ Short w b t
+
+abbrev pub FeedingFalse : Type 0
+FeedingFalse =
+    (w b : List ℕ) (byte : ℕ) (t : List ℕ) (a : Bool) (w′ b′ t′ : List ℕ) → Feeding w b byte t a w′ b′ t′ → a ≡ false ↔ Short w b t
+
+-- and nothing is written.
+abbrev pub OpeningFalseKeeps : Type 0
+OpeningFalseKeeps =
+    (rows : List ℕ) (s i o B c : ℕ) (w b t w′ b′ t′ : List ℕ) → Opens rows s i o B c w b t false w′ b′ t′
+    → (w′ ≡ w) × (b′ ≡ b) × (t′ ≡ t)
+
+abbrev pub FeedingFalseKeeps : Type 0
+FeedingFalseKeeps =
+    (w b : List ℕ) (byte : ℕ) (t w′ b′ t′ : List ℕ) → Feeding w b byte t false w′ b′ t′ → (w′ ≡ w) × (b′ ≡ b) × (t′ ≡ t)
 
 -- ONE ANSWER
 

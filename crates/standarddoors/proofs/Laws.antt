@@ -6,18 +6,18 @@ use lib.ListN.{length}
 use borrow.Author.Tests.{leb-false, lt-leb}
 use Rattle.standarddoors.specs.Results.{rows-size}
 use Rattle.standarddoors.specs.Results as doors
-use Rattle.standarddoors.specs.Laws.{FalseWhenShort, FalseKeeps, OneGiving}
+use Rattle.standarddoors.specs.Laws.{GivingFalse, GivingFalseKeeps, OneGiving}
 
 -- memory is not both too short and long enough
 not-both : {A : Type 0} {r : Bool} → r ≡ false → r ≡ true → A
 not-both e f = let h = sym e ∙ f in clash (cc)
 
-pub false-when-short : FalseWhenShort
-false-when-short d a d′ (doors.short e) = (λ _. leb-false rows-size (length d) e, λ _. refl)
-false-when-short d a d′ (doors.gives e) = (λ f. not-both f refl, λ h. not-both (lt-leb rows-size (length d) h) e)
+pub giving-false : GivingFalse
+giving-false d a d′ (doors.short e) = (λ _. leb-false rows-size (length d) e, λ _. refl)
+giving-false d a d′ (doors.gives e) = (λ f. not-both f refl, λ h. not-both (lt-leb rows-size (length d) h) e)
 
-pub false-keeps : FalseKeeps
-false-keeps d d′ (doors.short e) = refl
+pub giving-false-keeps : GivingFalseKeeps
+giving-false-keeps d d′ (doors.short e) = refl
 
 pub one-giving : OneGiving
 one-giving d a₁ a₂ d₁ d₂ (doors.short e) (doors.short e′) = (refl, refl)

@@ -8,12 +8,12 @@ use lib.ListN.{length}
 use Rattle.standarddoors.specs.Results.{rows-size, Giving}
 
 -- It answers false exactly when the memory is shorter than the rows are;
-abbrev pub FalseWhenShort : Type 0
-FalseWhenShort = (d : List ℕ) (a : Bool) (d′ : List ℕ) → Giving d a d′ → a ≡ false ↔ (length d < rows-size)
+abbrev pub GivingFalse : Type 0
+GivingFalse = (d : List ℕ) (a : Bool) (d′ : List ℕ) → Giving d a d′ → a ≡ false ↔ (length d < rows-size)
 
 -- and then nothing is written.
-abbrev pub FalseKeeps : Type 0
-FalseKeeps = (d d′ : List ℕ) → Giving d false d′ → d′ ≡ d
+abbrev pub GivingFalseKeeps : Type 0
+GivingFalseKeeps = (d d′ : List ℕ) → Giving d false d′ → d′ ≡ d
 
 -- Of one input there is one answer, and one content of the memory that was lent.
 abbrev pub OneGiving : Type 0
