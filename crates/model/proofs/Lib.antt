@@ -8,6 +8,7 @@ pub mod Reference
 pub mod Contained
 pub mod Inserted
 pub mod Mimic
+pub mod Stray
 pub mod Flags
 pub mod Cases
 pub mod Demands
