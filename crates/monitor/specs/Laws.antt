@@ -59,13 +59,13 @@ PlausibleAfterFeeding =
 -- DEMAND 3 FOR SESSIONS
 
 -- Allowing more, each state of the first session's set is in the second's; with j zero, its waiting count and loss run too; and the flag
--- does not come earlier.
-pub record KeptBy (j : ℕ) (s s′ : Session) : Type 0 where
+-- falls after all that the first session had seen when it was flagged, or not at all. The table has n inputs.
+pub record KeptBy (n j : ℕ) (bytes bytes′ : List ℕ) (s s′ : Session) : Type 0 where
   pub state : (q w r : ℕ) → Holds (s .set) (cfg q w r) → (w′ : ℕ) × (r′ : ℕ) × Holds (s′ .set) (cfg q w′ r′)
   pub same : j ≡ 0 → (x : Config ℕ) → Holds (s .set) x → Holds (s′ .set) x
-  pub flag : Later (place-of (s .flag)) (place-of (s′ .flag))
+  pub flag : Later n j (events bytes) (events bytes′) (place-of (s .flag)) (place-of (s′ .flag))
 
 abbrev pub SessionsAllowMore : Type 0
 SessionsAllowMore =
     (T T′ : Table) (B c B′ c′ j : ℕ) (bytes bytes′ : List ℕ) (s s′ : Session) → Slack T T′ B c B′ c′ j (events bytes) (events bytes′)
-    → Follows T B c bytes s → Follows T′ B′ c′ bytes′ s′ → KeptBy j s s′
+    → Follows T B c bytes s → Follows T′ B′ c′ bytes′ s′ → KeptBy (T .inputs) j bytes bytes′ s s′

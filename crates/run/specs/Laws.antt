@@ -72,4 +72,5 @@ RunsAllowMore =
     → ((k k′ : ℕ) (l : k < length trace) (l′ : k′ < length trace′)
     → Slack (table-of rows s i o) (table-of rows′ s′ i′ o′) B c B′ c′ j (events (first (suc k) trace)) (events (first (suc k′) trace′))
     → (q : ℕ) → In q (r .lines k l .1 .states) → In q (r′ .lines k′ l′ .1 .states))
-    × (Slack (table-of rows s i o) (table-of rows′ s′ i′ o′) B c B′ c′ j (events trace) (events trace′) → Later (place-of f) (place-of f′))
+    × (Slack (table-of rows s i o) (table-of rows′ s′ i′ o′) B c B′ c′ j (events trace) (events trace′)
+    → Later i j (events trace) (events trace′) (place-of f) (place-of f′))
