@@ -4,5 +4,7 @@ mod Lags
 mod Moves
 mod Lines
 mod Passing
+pub mod Bytes
 mod Whole
+mod Written
 mod Running

@@ -1,4 +1,4 @@
--- Whole runs: one answer, as if fed, and demand 3. Assumes nothing.
+-- Whole runs: one answer, and as if fed. Assumes nothing.
 use mathlib.Core.Path.{_≡_, refl, sym, _∙_, ap}
 use mathlib.Core.List.{List, [], _∷_, _++_}
 use mathlib.Core.Logic.{_↔_, _⊎_, inl, inr, ⊎-elim}
@@ -7,9 +7,9 @@ use Prim.Native.Nat.{ℕ, zero, suc, _+_, _-_, _*_, _/_, _%_, _≤_, _<_}
 use native.Mathlib.Omega.{arith}
 use lib.ListN.{length, getD, take}
 use lib.Seq.{ext-getD}
-use Rattle.model.specs.Model.{box, events, Config, cfg, Set, Plausible, FlagIs}
+use Rattle.model.specs.Model.{box, events, Config, Set, Plausible, FlagIs}
 use Rattle.model.proofs.Flags.{lt-or-ge}
-use Rattle.model.proofs.Demands.{one-flag, allowing-more, never-convicts}
+use Rattle.model.proofs.Demands.{one-flag}
 use Rattle.table.specs.Bytes.{table-of}
 use Rattle.table.specs.declared.answer.Refusal.{Refusal}
 use Rattle.table.specs.declared.answer.Test.the-variants.{Passed, Refused}
@@ -21,7 +21,7 @@ use Rattle.run.specs.declared.Ran.{Ran}
 use Rattle.session.specs.Sets.{Holds}
 use Rattle.session.specs.Session.{place-of}
 use Rattle.run.specs.Run.{Lowest, Highest, StateOf, WaitingOf, RunOf, number, Line, At, run-test, RunTo, Runs, refused, ran}
-use Rattle.run.specs.Laws.{OneLine, OneRun, Agree, RunsAsFed, RunsAllowMore}
+use Rattle.run.specs.Laws.{OneLine, OneRun, Agree, RunsAsFed}
 use Rattle.monitor.proofs.Laws.{plausible-after-feeding}
 
 -- ONE LINE
@@ -81,7 +81,7 @@ one-line S l l′ a b =
 
 -- ONE ANSWER
 
-one-place : (f g : Flag) → place-of f ≡ place-of g → f ≡ g
+pub one-place : (f g : Flag) → place-of f ≡ place-of g → f ≡ g
 one-place flag.None flag.None e = refl
 one-place flag.None (flag.At k) e = absurd (let z : _≡_ {A = ℕ} 0 1 = cc in omega arith)
 one-place (flag.At k) flag.None e = absurd (let z : _≡_ {A = ℕ} 0 1 = cc in omega arith)
@@ -126,15 +126,3 @@ runs-as-fed rows s i o B c trace before after f passes r =
       flag = λ t all. let fo = plausible-after-feeding rows s i o B c trace t passes all in
           one-place (t .flag) f (one-flag (box (table-of rows s i o)) B c (events trace) (place-of (t .flag)) (place-of f) (fo .flag) (r .flag));
     }
-
--- DEMAND 3
-
-pub runs-allow-more : RunsAllowMore
-runs-allow-more rows rows′ s i o s′ i′ o′ B c B′ c′ j trace trace′ before before′ after after′ f f′ r r′ = (
-  (λ k k′ e e′ slack q m.
-      let (x, p, is) = r .lines k e .1 .states-are q .0 m in
-      let kept = allowing-more (table-of rows s i o) (table-of rows′ s′ i′ o′) B c B′ c′ j (events (take (suc k) trace)) (events (take (suc k′) trace′)) slack in
-      let (w, u, p′) = kept .state (x .state) (x .waiting) (x .run) p in
-      r′ .lines k′ e′ .1 .states-are q .1 (cfg (x .state) w u, p′, is)),
-  (λ slack. never-convicts (table-of rows s i o) (table-of rows′ s′ i′ o′) B c B′ c′ j (events trace) (events trace′) (place-of f) (place-of f′) slack (r .flag) (r′ .flag)),
-)

@@ -64,6 +64,13 @@ number m =
     m % 256 ∷ m / 256 % 256 ∷ m / 65536 % 256 ∷ m / 16777216 % 256 ∷ m / 4294967296 % 256 ∷ m / 1099511627776 % 256
     ∷ m / 281474976710656 % 256 ∷ m / 72057594037927936 % 256 ∷ []
 
+-- The number that the four bytes from a place on are, least byte first; and that the eight are.
+abbrev pub four : List ℕ → ℕ → ℕ
+four bytes at = getD bytes at 0 + 256 * (getD bytes (at + 1) 0 + 256 * (getD bytes (at + 2) 0 + 256 * getD bytes (at + 3) 0))
+
+abbrev pub eight : List ℕ → ℕ → ℕ
+eight bytes at = four bytes at + 4294967296 * four bytes (at + 4)
+
 -- then least and most waiting, then least and most run.
 pub record Line (S : Set ℕ) (bytes : List ℕ) : Type 0 where
   pub states : ℕ
