@@ -1,12 +1,14 @@
 -- Document 01, "Small cases": the lines of a listing, byte by byte. Assumes nothing.
 use mathlib.Core.Bool.{Bool, true, cond, _&&_}
 use mathlib.Core.List.{List, [], _∷_, _++_}
-use Prim.Native.Nat.{ℕ, _+_, _-_, _*_}
+use Prim.Native.Nat.{ℕ, _-_}
 use lib.Dec.{eqb, ltb, leb}
 use lib.ListN.{getD}
 use Rattle.table.specs.declared.answer.Told.{Told}
 use Rattle.session.specs.declared.Flag.{Flag}
 use Rattle.session.specs.declared.Flag.the-variants as flag
+use Rattle.run.specs.Run.{eight}
+pub use Rattle.run.specs.Run.{four}
 use Rattle.lines.specs.Texts.{decimal, hexadecimal}
 
 -- One space between fields;
@@ -24,12 +26,9 @@ dash = 45
 abbrev pub symbol : ℕ → List ℕ
 symbol b = cond (ltb b 128) (105 ∷ decimal b) (111 ∷ decimal (b - 128))
 
--- The number that four of a run's twelve bytes are, least byte first; and that of the first eight.
-abbrev pub four : List ℕ → ℕ → ℕ
-four twelve at = getD twelve at 0 + 256 * (getD twelve (at + 1) 0 + 256 * (getD twelve (at + 2) 0 + 256 * getD twelve (at + 3) 0))
-
+-- The plausible states: the number that the first eight of a run's twelve bytes are.
 abbrev pub states-in : List ℕ → ℕ
-states-in twelve = four twelve 0 + 4294967296 * four twelve 4
+states-in twelve = eight twelve 0
 
 -- least and most, a dash for the pair when the set is empty: there is no state then.
 abbrev pub pair : ℕ → ℕ → ℕ → List ℕ
