@@ -10,5 +10,6 @@ pub mod Inserted
 pub mod Mimic
 pub mod Stray
 pub mod Flags
+pub mod Full
 pub mod Cases
 pub mod Demands
