@@ -30,8 +30,8 @@ use Rattle.house.specs.declared.answer.Refusal.{Refusal}
 use Rattle.house.specs.declared.answer.Refusal.the-variants.{Length, Block, Standard, Content}
 use Rattle.house.specs.declared.answer.Verdict.{Verdict}
 use Rattle.house.specs.declared.answer.Verdict.the-variants.{Passed, Refused}
-use Rattle.house.proofs.Before as before
-use Rattle.house.proofs.Before.{unless-stray, Became, split, same, SameFiles}
+use Rattle.house.specs.Before as before
+use Rattle.house.specs.Before.{unless-stray, Became, split, same, SameFiles}
 use Rattle.house.proofs.Faults.{block-told}
 
 -- THE TESTS ARE THE SAME, however they are grouped

@@ -1,5 +1,5 @@
 -- Every statement of specs/Laws.antt, proved, under one roof: other crates take the laws from here; and what became of number 13,
--- whose statement stands in proofs/Before.antt with the definitions of that time. Assumes nothing.
+-- whose statement stands in specs/Before.antt with the definitions of that time. Assumes nothing.
 use mathlib.Core.Path.{_≡_, refl, sym, ap, _∙_}
 use mathlib.Core.List.{List, []}
 use Prim.Native.Nat.{ℕ, _≤_}
@@ -16,7 +16,7 @@ use Rattle.house.specs.declared.answer.Reading.the-variants.{Good}
 use Rattle.house.specs.declared.answer.Source.{Source}
 use Rattle.house.specs.declared.answer.Source.the-variants.{Rows, Standard}
 use Rattle.house.specs.declared.answer.Verdict.the-variants.{Passed}
-use Rattle.house.proofs.Before.{SameFiles}
+use Rattle.house.specs.Before.{SameFiles}
 use Rattle.house.proofs.Became
 use Rattle.house.proofs.Faults
 use Rattle.house.proofs.Contents.{good-passed, good-contents}

@@ -5,6 +5,5 @@ pub mod Contents
 pub mod Forms
 pub mod Good
 pub mod Faults
-pub mod Before
 pub mod Became
 pub mod Laws

@@ -4,3 +4,4 @@ pub mod Refusals
 pub mod File
 pub mod Reading
 pub mod Laws
+pub mod Before

@@ -12,8 +12,8 @@ use Rattle.table.proofs.Checks.{clash, both}
 use Rattle.standard.specs.Rule as now
 use Rattle.standard.specs.Rule.{states, numbers, after-output}
 use Rattle.standard.specs.Box.{columns, in-place, standard-rows, standard-table}
-use Rattle.standard.proofs.Before as before
-use Rattle.standard.proofs.Before.{rows-before, table-before, Again, Became, OtherEntriesStay, SixteenChange, NeitherWider}
+use Rattle.standard.specs.Before as before
+use Rattle.standard.specs.Before.{rows-before, table-before, Again, Became, OtherEntriesStay, SixteenChange, NeitherWider}
 use Rattle.standard.proofs.Listed.{every, same, same-equal}
 use Rattle.standard.proofs.Entries.{inside, AllInside, carried, entry-by, every-entry}
 

@@ -1,5 +1,5 @@
 -- Every statement of specs/Laws.antt, proved: other crates take the laws from here; and what became of the entries of document 01, whose
--- statements stand in proofs/Before.antt with the rule of that time. Assumes nothing.
+-- statements stand in specs/Before.antt with the rule of that time. Assumes nothing.
 use mathlib.Core.Path.{_≡_, refl, _∙_, sym}
 use mathlib.Core.Bool.{Bool, true, _&&_, and-eq-true-iff}
 use mathlib.Core.List.{List, [], _∷_, List·Memᴰ as In, List·Memᴰ·not-nil as not-nil, List·Memᴰ·cases-cons as cases-cons}
@@ -17,7 +17,7 @@ use Rattle.standard.specs.Box.{columns, standard-table}
 use Rattle.standard.specs.Laws.{EveryEntry, EveryState, EveryReport, IsValid, Passes, OnlyCounts, Citation, cited, column, CitedHold}
 use Rattle.standard.proofs.Listed.{every, at, same, same-equal}
 use Rattle.standard.proofs.Entries
-use Rattle.standard.proofs.Before.{OtherEntriesStay, SixteenChange, NeitherWider}
+use Rattle.standard.specs.Before.{OtherEntriesStay, SixteenChange, NeitherWider}
 use Rattle.standard.proofs.Became
 
 pub every-entry : EveryEntry

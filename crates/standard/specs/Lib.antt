@@ -1,3 +1,4 @@
 pub mod Rule
 pub mod Box
 pub mod Laws
+pub mod Before

@@ -114,8 +114,8 @@ pub data Became : Told → Told → Type 0 where
       → Became (table.told-at 13 block) (record { number = n; place = block; second = offset })
   same : (t : Told) → (t .number < 13) ⊎ (t .number ≡ 14) → Became t t
 
--- Of one file and two buffers, a reading of that time and one of today: both are good or both refused; they hold the same; what is told
--- with them became as above; and they leave the same bytes.
+-- The set of files turned away does not change. Of one file and two buffers, a reading of that time and one of today: both are good or
+-- both refused; they hold the same; what is told with them became as above; and they leave the same bytes.
 pub record Same (r₀ r : Reading) (d₀ d′ e₀ e′ : List ℕ) : Type 0 where
   pub good : is-good r₀ ≡ is-good r
   pub holds : results r₀ ≡ results r
