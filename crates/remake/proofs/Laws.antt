@@ -13,7 +13,7 @@ use Rattle.house.specs.declared.answer.Reading.the-variants.{Good}
 use Rattle.house.specs.declared.answer.Refusal.{Refusal}
 use Rattle.house.specs.declared.answer.Verdict.the-variants as verdict
 use Rattle.house.proofs.Laws.{read-exactly, rows-fit, what-is-held}
-use Rattle.writer.specs.Writing.{Writes}
+use Rattle.writer.specs.Laws.{WritesWhatWasRead}
 use Rattle.writer.specs.declared.answer.Writing.{Writing}
 use Rattle.writer.specs.declared.answer.Writing.the-variants.{Refused}
 use Rattle.writer.proofs.Laws.{one-writing, writes-back}
@@ -48,11 +48,6 @@ pub good-written : GoodWritten
 good-written s waiting losses trace o w o′ g (refused x) = clash (sym (passes s g) ∙ x)
 good-written s waiting losses trace o w o′ g (written v h) = h
 
--- what a file holds, in the words of what is to be written
-held-again : (s : List ℕ) → changed s (contents-of s .waiting) (contents-of s .losses) (events-of s) ≡ contents-of s
-unfolding contents-of
-held-again s = refl
-
 -- a good file is read into rooms of these lengths
 reads : (s d e : List ℕ) → length d ≡ row-room → length e ≡ event-room → GoodFile s (contents-of s)
     → Answers s d e (Good (contents-of s)) (front d (rows-of s)) (front e (events-of s))
@@ -64,8 +59,9 @@ reads s d e long wide g = record { reading = answered; rows = refl; events = ref
     answered : Good (contents-of s) ≡ answer (verdict s (length d) (length e)) (contents-of s)
     answered = rw passed
 
-same : (c c′ : Contents) (rows rows′ trace trace′ o o′ : List ℕ) (w : Writing) → c ≡ c′ → rows ≡ rows′ → trace ≡ trace′ → Writes c rows trace o w o′ → Writes c′ rows′ trace′ o w o′
-same c c′ rows rows′ trace trace′ o o′ w e f g h = rw (e, f, g) at h
+same : (c : Contents) (rows rows′ trace trace′ o o′ : List ℕ) (w : Writing) → rows ≡ rows′ → trace ≡ trace′
+    → WritesWhatWasRead c rows trace o w o′ → WritesWhatWasRead c rows′ trace′ o w o′
+same c rows rows′ trace trace′ o o′ w f g h = rw (f, g) at h
 
 pub same-again : SameAgain
 same-again s o w o′ b g l h =
@@ -75,4 +71,4 @@ same-again s o w o′ b g l h =
     let held = what-is-held s d e (contents-of s) _ _ a in
     let k = good-written s (contents-of s .waiting) (contents-of s .losses) (events-of s) o w o′ g h in
     writes-back s d e (contents-of s) _ _ o w o′ b a l
-    (same _ _ _ _ _ _ o o′ w (held-again s) (sym (held .rows .start)) (sym (held .events .start)) k)
+    (same (contents-of s) _ _ _ _ o o′ w (sym (held .rows .start)) (sym (held .events .start)) k)

@@ -24,7 +24,7 @@ use Rattle.house.proofs.Laws.{contents-pass, rows-fit, read-exactly, what-is-he
 use Rattle.house.proofs.Verdicts.{then-passed, must-passed}
 use Rattle.writer.specs.Writing.{needed, write-test, answer, IsFile, Left, Writes}
 use Rattle.writer.specs.Layout.{file-of}
-use Rattle.writer.specs.Laws.{Counted, LaidOut, LongAsNeeded, OneFile, Bytes, GoodIsFile, WriteExactly, OneWriting, NothingWritten, ReadsBack, WritesBack}
+use Rattle.writer.specs.Laws.{Counted, LaidOut, LongAsNeeded, OneFile, Bytes, GoodIsFile, WriteExactly, OneWriting, NothingWritten, ReadsBack, WritesWhatWasRead, WritesBack}
 use Rattle.writer.specs.declared.answer.Writing.{Writing}
 use Rattle.writer.specs.declared.answer.Writing.the-variants.{Written, Refused}
 use Rattle.writer.proofs.Files.{laid, long-enough}
@@ -120,14 +120,19 @@ reads-back c rows trace o n o′ d e r d′ e′ counted w l m a =
       events-back = starts-same e e′ (events-of f) trace (contents-of f .events) (length trace) (i .events-held) (counts-held f .1 ∙ ap length (i .events-held)) (h .events);
     }
 
+-- what `write` is given of a file's reading is what the file holds
+given-again : (s : List ℕ) (c : Contents) (rows trace o : List ℕ) (w : Writing) (o′ : List ℕ) → c ≡ contents-of s → rows ≡ rows-of s
+    → trace ≡ events-of s → WritesWhatWasRead c rows trace o w o′ → Writes c (rows-of s) (events-of s) o w o′
+unfolding contents-of
+given-again s c rows trace o w o′ e f g x = rw e (rw (e, f, g) at x)
+
 pub writes-back : WritesBack
 writes-back s d e c d′ e′ o w o′ bytes a space x =
     let rows = rows-of s in
     let trace = events-of s in
     let g = what-is-good s d e c d′ e′ a in
     let h = what-is-held s d e c d′ e′ a in
-    let y : Writes c rows trace o w o′ =
-    subst (λ (z : List ℕ). Writes c rows z o w o′) (h .events .start) (subst (λ (z : List ℕ). Writes c z (take (c .events) e′) o w o′) (h .rows .start) x) in
+    let y : Writes c rows trace o w o′ = given-again s c _ _ o w o′ (h .contents) (h .rows .start) (h .events .start) x in
     let counted : Counted c rows trace =
     record { row-count = ap (λ (z : Contents). z .rows) (h .contents) ∙ counts-held s .0; event-count = ap (λ (z : Contents). z .events) (h .contents) ∙ counts-held s .1 } in
     let i : IsFile s c rows trace =

@@ -81,14 +81,19 @@ ReadsBack =
     → length rows ≤ length d → length trace ≤ length e → Answers (take n o′) d e r d′ e′
     → SameThings c rows trace d e r d′ e′
 
--- Writing what was read from any good file gives the same bytes: all that was read is handed to the writer, with a buffer that has room.
+-- Writing what was read from any good file gives the same bytes: the source, counts and bounds that `read` answered, and the rows and the
+-- events that it left at the starts of its buffers, are what `write` is given, with a buffer that has room.
 pub record SameBytes (s : List ℕ) (w : Writing) (o′ : List ℕ) : Type 0 where
   pub answer : w ≡ Written (length s)
   pub bytes : take (length s) o′ ≡ s
+
+abbrev pub WritesWhatWasRead : Contents → List ℕ → List ℕ → List ℕ → Writing → List ℕ → Type 0
+WritesWhatWasRead c rows trace o w o′ =
+    Writes (given (c .source) (c .states) (c .inputs) (c .outputs) (c .waiting) (c .losses) rows trace) rows trace o w o′
 
 abbrev pub WritesBack : Type 0
 WritesBack =
     (s d e : List ℕ) (c : Contents) (d′ e′ o : List ℕ) (w : Writing) (o′ : List ℕ)
     → Bytes s → Answers s d e (reading.Good c) d′ e′ → length s ≤ length o
-    → Writes c (take (c .rows) d′) (take (c .events) e′) o w o′
+    → WritesWhatWasRead c (take (c .rows) d′) (take (c .events) e′) o w o′
     → SameBytes s w o′
