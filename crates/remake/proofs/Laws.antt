@@ -18,7 +18,8 @@ use Rattle.writer.specs.declared.answer.Writing.{Writing}
 use Rattle.writer.specs.declared.answer.Writing.the-variants.{Refused}
 use Rattle.writer.proofs.Laws.{one-writing, writes-back}
 use Rattle.remake.specs.Remaking.{row-room, event-room, changed, refused, written}
-use Rattle.remake.specs.Laws.{OneRemaking, OneRebinding, OneRetracing, GoodWritten, SameAgain}
+use Rattle.remake.specs.Laws.{OneRemaking, OneRebinding, OneRetracing, GoodWritten, SameAgain, ReboundAlone, NoLessDoes}
+use Rattle.remake.proofs.Bounds
 
 clash : {A : Type 0} {r : Refusal} → verdict.Passed ≡ verdict.Refused r → A
 clash e = absurd (let z : _≡_ {A = ℕ} 0 1 = cc in omega arith)
@@ -72,3 +73,9 @@ same-again s o w o′ b g l h =
     let k = good-written s (contents-of s .waiting) (contents-of s .losses) (events-of s) o w o′ g h in
     writes-back s d e (contents-of s) _ _ o w o′ b a l
     (same (contents-of s) _ _ _ _ o o′ w (sym (held .rows .start)) (sym (held .events .start)) k)
+
+pub rebound-alone : ReboundAlone
+rebound-alone = Bounds.rebound-alone
+
+pub no-less-does : NoLessDoes
+no-less-does = Bounds.no-less-does

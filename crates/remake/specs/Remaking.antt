@@ -1,7 +1,8 @@
 -- A house file made from another, with other bounds or with another trace: the answer, and what it leaves in the buffer. Assumes nothing.
 use mathlib.Core.Path.{_≡_}
 use mathlib.Core.List.{List}
-use Prim.Native.Nat.{ℕ}
+use Prim.Native.Nat.{ℕ, _+_}
+use Rattle.block.specs.Limits.{payload-at, check-at}
 use Rattle.house.specs.File.{rows-of, events-of, contents-of}
 use Rattle.house.specs.Reading.{given, verdict}
 use Rattle.house.specs.declared.answer.Contents.{Contents}
@@ -34,6 +35,20 @@ pub data Remakes (s : List ℕ) (waiting losses : ℕ) (trace o : List ℕ) : Wr
 -- With these bounds in place of its own.
 abbrev pub Rebinds : List ℕ → ℕ → ℕ → List ℕ → Writing → List ℕ → Type 0
 Rebinds s waiting losses o w o′ = Remakes s waiting losses (events-of s) o w o′
+
+-- Where the bounds stand: B and c are bytes 9 and 10 of block 0, with which a file starts; its check is bytes 510 and 511.
+abbrev pub waiting-at : ℕ
+waiting-at = payload-at + 3
+
+abbrev pub losses-at : ℕ
+losses-at = payload-at + 4
+
+-- Every byte but those two and the check of block 0.
+pub record Elsewhere (i : ℕ) : Type 0 where
+  pub not-waiting : i ≡ waiting-at → ⊥
+  pub not-losses : i ≡ losses-at → ⊥
+  pub not-check-low : i ≡ check-at → ⊥
+  pub not-check-high : i ≡ check-at + 1 → ⊥
 
 -- With this trace in place of its own.
 abbrev pub Retraces : List ℕ → List ℕ → List ℕ → Writing → List ℕ → Type 0

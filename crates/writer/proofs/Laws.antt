@@ -83,7 +83,7 @@ pub nothing-written : NothingWritten
 nothing-written c rows trace o r o′ x = x .left
 
 -- a file that was written passed its tests, and its length was answered
-was-written : (v : Verdict) (c : Contents) (n : ℕ) → Written n ≡ answer v c → (v ≡ verdict.Passed) × (n ≡ needed c)
+pub was-written : (v : Verdict) (c : Contents) (n : ℕ) → Written n ≡ answer v c → (v ≡ verdict.Passed) × (n ≡ needed c)
 was-written verdict.Passed c n e = (refl, cc)
 was-written (verdict.Refused r) c n e = clash (cc)
 
