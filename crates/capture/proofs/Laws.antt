@@ -2,11 +2,13 @@
 use mathlib.Core.Path.{ap, _∙_}
 use native.Mathlib.Omega.{arith}
 use Rattle.capture.specs.Capture.{records, of-layout}
-use Rattle.capture.specs.Laws.{Reversed, HeaderPasses, OrderTold, RecordPasses, LayoutIs, LayoutValid, OneEach, AllOfLayout, TakesExactly, InOrder, ExactlyTheEvents, ComesToItsEnd, LeftThere, ImportsExactly, OneImport, NothingWritten, WhatIsWritten, ReadAsImported, ImportedAsRead}
+use Rattle.capture.specs.Laws.{Reversed, HeaderPasses, OrderTold, RecordPasses, LayoutIs, LayoutValid, OneEach, AllOfLayout, TakesExactly, InOrder, ExactlyTheEvents, ComesToItsEnd, LeftThere, ImportsExactly, OneImport, NothingWritten, WhatIsWritten, ReadAsImported, ImportedAsRead, TakenAlike, ImportedAlike, EachRead}
 use Rattle.capture.proofs.Fields
 use Rattle.capture.proofs.Handing
 use Rattle.capture.proofs.Importing
 use Rattle.capture.proofs.Records.{octets-length, octets-at}
+use Rattle.capture.proofs.Alike
+use Rattle.capture.proofs.Settled
 
 -- The bytes.
 pub reversed : Reversed
@@ -71,3 +73,13 @@ read-as-imported = Importing.read-as-imported
 
 pub imported-as-read : ImportedAsRead
 imported-as-read = Importing.imported-as-read
+
+-- The fields.
+pub taken-alike : TakenAlike
+taken-alike = Alike.taken-alike
+
+pub imported-alike : ImportedAlike
+imported-alike = Alike.imported-alike
+
+pub each-read : EachRead
+each-read = Settled.each-read

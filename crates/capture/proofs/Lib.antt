@@ -7,3 +7,5 @@ mod Takes
 mod Handing
 mod Imports
 mod Importing
+mod Alike
+mod Settled

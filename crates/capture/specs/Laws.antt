@@ -4,13 +4,15 @@ use mathlib.Core.Bool.{Bool, true, false}
 use mathlib.Core.List.{List, [], _∷_}
 use mathlib.Core.Logic.{_↔_, _⊎_}
 use Prim.Native.Nat.{ℕ, _+_, _≤_, _<_}
-use lib.ListN.{length, take, drop, getD}
+use lib.ListN.{length, take, drop, getD, set}
 use Rattle.model.specs.Limits.{most-inputs, most-outputs, most-events}
 use Rattle.table.specs.Bytes.{symbol-of}
 use Rattle.table.specs.declared.answer.Symbol.the-variants.{Invalid}
 use Rattle.capture.specs.Limits.{header-size, record-size, magic, version-major, version-minor, link-type}
-use Rattle.capture.specs.Capture.{two, four, two-at, four-at, big, headed, records, right, right-at, octet-at, of-layout, layout-at, octets, events-of, GoodCapture}
-use Rattle.capture.specs.Reading.{taken-at, place-after}
+use Rattle.capture.specs.Capture.{byte, two, four, two-at, four-at, big, headed, records, right, right-at, octet-at}
+use Rattle.capture.specs.Capture.{of-layout, layout-at, octets, events-of, GoodCapture}
+use Rattle.capture.specs.Reading.{taken-at, place-after, handed-at}
+use Rattle.capture.specs.Fields.{IsRead, SameFor, SameFields}
 use Rattle.capture.specs.Importing.{imported, Imports}
 use Rattle.capture.specs.declared.answer.Refusal.{Refusal}
 use Rattle.capture.specs.declared.answer.Refusal.the-variants as refusal
@@ -157,3 +159,25 @@ abbrev pub ImportedAsRead : Type 0
 ImportedAsRead =
     (s bytes : List ℕ) (j : ℕ) (d : List ℕ) (r : Imported) (d′ : List ℕ) → CalledToItsEnd s bytes j → Imports s d r d′ → j ≤ length d
     → (r ≡ Good j) × (take j d′ ≡ bytes)
+
+-- THE FIELDS
+
+-- Other fields are not read. Two captures of one length that agree on the bytes that are read for a record: there the reader answers the
+-- same of both, event or end or refusal, and stands at the same place then.
+abbrev pub TakenAlike : Type 0
+TakenAlike = (s t : List ℕ) (k : ℕ) → SameFor k s t → handed-at s k ≡ handed-at t k
+
+-- Two that agree on all that is read: they have the same events, and every import of the one is one of the other, answer and memory.
+pub record Alike (s t : List ℕ) : Type 0 where
+  pub events : events-of s ≡ events-of t
+  pub imports : (d : List ℕ) (r : Imported) (d′ : List ℕ) → Imports s d r d′ → Imports t d r d′
+
+abbrev pub ImportedAlike : Type 0
+ImportedAlike = (s t : List ℕ) → SameFields s t → Alike s t
+
+-- The fields that are read are: where a reader hands out an event, another value of any byte that is read for its record, and of no other,
+-- and it hands out that event no more.
+abbrev pub EachRead : Type 0
+EachRead =
+    (s : List ℕ) (k i b x : ℕ) → ((j : ℕ) → byte s j < 256) → IsRead k i → taken-at s k ≡ taken.Event b
+    → x < 256 → (x ≡ byte s i → ⊥) → taken-at (set s i x) k ≡ taken.Event b → ⊥
