@@ -83,10 +83,12 @@ module _ (s t : List ℕ) (i : ℕ) (other : (j : ℕ) → (j ≡ i → ⊥) →
           here (a + 3) z (o .last (other a (λ x. omega arith)) (other (a + 1) (λ x. omega arith)) (other (a + 2) (λ x. omega arith)))
       go (suc (suc (suc (suc n)))) z l = absurd (omega arith)
 
--- no change of one byte turns the magic around
+-- THE BYTE ORDER
+
 abbrev Bytes : List ℕ → Type 0
 Bytes s = (j : ℕ) → byte s j < 256
 
+-- no change of one byte turns the magic around
 apart : (s t : List ℕ) (i : ℕ) → ((j : ℕ) → (j ≡ i → ⊥) → byte t j ≡ byte s j) → Bytes s → Bytes t
     → four-at true s 0 ≡ magic → four-at false t 0 ≡ magic → ⊥
 apart s t i other m n e f =
