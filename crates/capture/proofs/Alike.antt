@@ -11,7 +11,7 @@ use Rattle.capture.specs.Capture.{byte, two, four, two-at, four-at, big,
 use Rattle.capture.specs.Capture.{record-at, records, right, right-at, octet-at, of-layout, layout-at, octets, events-of}
 use Rattle.capture.specs.Fields as field
 use Rattle.capture.specs.Fields.{Field, OfHeader, OfRecord, of-header, of-record, SameFor, SameFields}
-use Rattle.capture.specs.Importing.{passing, verdict, imported, after}
+use Rattle.capture.specs.Importing.{imported, after}
 use Rattle.capture.specs.Reading.{taken-at, place-after, handed}
 use Rattle.capture.specs.Laws.{TakenAlike, ImportedAlike}
 use Rattle.capture.specs.declared.answer.Taken.{Taken}

@@ -8,25 +8,20 @@ use native.Mathlib.Omega.{arith}
 use lib.ListN.{length, take, getD, replicate}
 use lib.Seq.{getD-take}
 use Rattle.model.specs.Table.{Bounded}
-use Rattle.table.proofs.Checks.{clash}
 use Rattle.block.specs.Limits.{block-size, check-at, room, modulus, setup-kind, row-kind, event-kind, setup-size}
 use Rattle.block.specs.Block.{byte, stored, weighed, check}
 use Rattle.house.specs.File.{block-at, GoodForm, rows-of, events-of, contents-of}
-use Rattle.house.specs.Laws.{GoodContents, GoodFile}
-use Rattle.house.specs.Reading.{given, verdict}
+use Rattle.house.specs.Reading.{given}
 use Rattle.house.specs.declared.answer.Contents.{Contents}
 use Rattle.house.specs.declared.answer.Source.{Source}
-use Rattle.house.specs.declared.answer.Verdict.the-variants as verdict
-use Rattle.house.proofs.Laws.{read-exactly, counts-held}
-use Rattle.writer.specs.Writing.{blocks-for, write-test, IsFile, Writes}
+use Rattle.writer.specs.Writing.{blocks-for}
 use Rattle.writer.specs.Layout.{spelling, header, body, block-of, all-of, source-byte, setup-of, file-of}
-use Rattle.writer.specs.Laws.{Bytes, Counted}
-use Rattle.writer.specs.declared.answer.Writing.{Writing}
-use Rattle.writer.specs.declared.answer.Writing.the-variants.{Written}
+use Rattle.writer.specs.Laws.{Counted}
 use Rattle.writer.proofs.Blocks.{length-body, check-same}
-use Rattle.writer.proofs.Laws.{laid-out, long-as-needed, one-file, good-is-file, write-exactly, was-written}
-use Rattle.remake.specs.Remaking.{row-room, event-room, changed, Remakes, refused, written, Rebinds, waiting-at, losses-at, Elsewhere}
+use Rattle.writer.proofs.Laws.{long-as-needed}
+use Rattle.remake.specs.Remaking.{changed, waiting-at, losses-at, Elsewhere}
 use Rattle.remake.specs.Laws.{ReboundAlone, NoLessDoes}
+use Rattle.remake.proofs.Made.{Made, made}
 
 -- TWO BYTES OF A LIST
 
@@ -180,45 +175,7 @@ bounds-told x y waiting losses waiting′ losses′ e f g h =
 
 -- BOTH FILES
 
--- a file that was made, and what it was made from
-record Made (s : List ℕ) (waiting losses : ℕ) (f : List ℕ) : Type 0 where
-  old : GoodFile s (contents-of s)
-  old-is : s ≡ file-of (contents-of s) (rows-of s) (events-of s)
-  new : GoodContents (changed s waiting losses (events-of s)) (rows-of s) (events-of s)
-  new-file : IsFile f (changed s waiting losses (events-of s)) (rows-of s) (events-of s)
-  new-is : f ≡ file-of (changed s waiting losses (events-of s)) (rows-of s) (events-of s)
-
--- the writer answered
-answered : (s : List ℕ) (waiting losses : ℕ) (trace o : List ℕ) (w : Writing) (n : ℕ) (o′ : List ℕ) → w ≡ Written n
-    → Remakes s waiting losses trace o w o′
-    → (verdict s row-room event-room ≡ verdict.Passed) × Writes (changed s waiting losses trace) (rows-of s) trace o (Written n) o′
-answered s waiting losses trace o w n o′ e (refused x) = clash (cc)
-answered s waiting losses trace o w n o′ e (written v h) = (v, rw e at h)
-
-is-laid : (f : List ℕ) (c : Contents) (rows trace : List ℕ) → Counted c rows trace → GoodContents c rows trace → IsFile f c rows trace
-    → f ≡ file-of c rows trace
-is-laid f c rows trace n g i = one-file f (file-of c rows trace) c rows trace i (laid-out c rows trace n g)
-
-made : (s : List ℕ) (waiting losses : ℕ) (o : List ℕ) (n : ℕ) (o′ : List ℕ) → Bytes s → Rebinds s waiting losses o (Written n) o′
-    → Made s waiting losses (take n o′)
-made s waiting losses o n o′ b m =
-    let trace : List ℕ = events-of s in
-    let rows : List ℕ = rows-of s in
-    let c : Contents = changed s waiting losses trace in
-    let (v, h) = answered s waiting losses trace o (Written n) n o′ refl m in
-    let (g, _, _) = read-exactly s row-room event-room .0 v in
-    let (p, _) = was-written (write-test c rows trace (length o)) c n (h .answer) in
-    let (k, _) = write-exactly c rows trace (length o) (record { row-count = refl; event-count = refl }) .0 p in
-    let (x, y) = counts-held s in
-    record {
-      old = g;
-      old-is = is-laid s (contents-of s) rows trace (record { row-count = x; event-count = y }) (g .contents) (good-is-file s b g);
-      new = k;
-      new-file = h .left .file;
-      new-is = is-laid (take n o′) c rows trace (record { row-count = refl; event-count = refl }) k (h .left .file);
-    }
-
-module _ (s : List ℕ) (waiting losses : ℕ) (f : List ℕ) (m : Made s waiting losses f) where
+module _ (s : List ℕ) (waiting losses : ℕ) (f : List ℕ) (m : Made s waiting losses (events-of s) f) where
   as-long : length f ≡ length s
   unfolding contents-of
   as-long =
@@ -269,7 +226,7 @@ module _ (s : List ℕ) (waiting losses : ℕ) (f : List ℕ) (m : Made s waitin
 pub rebound-alone : ReboundAlone
 rebound-alone s waiting losses o n o′ b r =
     let f : List ℕ = take n o′ in
-    let m = made s waiting losses o n o′ b r in
+    let m = made s waiting losses (events-of s) o n o′ b r in
     record {
       as-long = as-long s waiting losses f m;
       elsewhere = elsewhere s waiting losses f m;
@@ -281,7 +238,7 @@ rebound-alone s waiting losses o n o′ b r =
 pub no-less-does : NoLessDoes
 no-less-does s waiting losses o n o′ b r =
     let f : List ℕ = take n o′ in
-    let m = made s waiting losses o n o′ b r in
+    let m = made s waiting losses (events-of s) o n o′ b r in
     record {
       waiting-moves = λ other e. other (sym (waiting-there s waiting losses f m) ∙ e ∙ waiting-was s waiting losses f m);
       losses-move = λ other e. other (sym (losses-there s waiting losses f m) ∙ e ∙ losses-were s waiting losses f m);

@@ -18,8 +18,10 @@ use Rattle.writer.specs.declared.answer.Writing.{Writing}
 use Rattle.writer.specs.declared.answer.Writing.the-variants.{Refused}
 use Rattle.writer.proofs.Laws.{one-writing, writes-back}
 use Rattle.remake.specs.Remaking.{row-room, event-room, changed, refused, written}
-use Rattle.remake.specs.Laws.{OneRemaking, OneRebinding, OneRetracing, GoodWritten, SameAgain, ReboundAlone, NoLessDoes}
+use Rattle.remake.specs.Laws.{OneRemaking, OneRebinding, OneRetracing, GoodWritten, SameAgain}
+use Rattle.remake.specs.Laws.{ReboundAlone, NoLessDoes, RetracedAlone}
 use Rattle.remake.proofs.Bounds
+use Rattle.remake.proofs.Trace
 
 clash : {A : Type 0} {r : Refusal} → verdict.Passed ≡ verdict.Refused r → A
 clash e = absurd (let z : _≡_ {A = ℕ} 0 1 = cc in omega arith)
@@ -79,3 +81,6 @@ rebound-alone = Bounds.rebound-alone
 
 pub no-less-does : NoLessDoes
 no-less-does = Bounds.no-less-does
+
+pub retraced-alone : RetracedAlone
+retraced-alone = Trace.retraced-alone

@@ -1,3 +1,5 @@
+mod Made
 mod Bounds
+mod Trace
 pub mod Laws
 mod Remaking

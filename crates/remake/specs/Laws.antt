@@ -10,7 +10,7 @@ use Rattle.writer.specs.Writing.{Writes}
 use Rattle.writer.specs.Laws.{Bytes, SameBytes}
 use Rattle.writer.specs.declared.answer.Writing.{Writing}
 use Rattle.writer.specs.declared.answer.Writing.the-variants.{Written}
-use Rattle.remake.specs.Remaking.{changed, Remakes, waiting-at, losses-at, Elsewhere, Rebinds, Retraces}
+use Rattle.remake.specs.Remaking.{changed, Remakes, waiting-at, losses-at, Elsewhere, Rebinds, rows-end, Retraces}
 
 -- Two answers for the same file, change and buffer are equal, and they leave the same bytes.
 abbrev pub OneRemaking : Type 0
@@ -67,3 +67,12 @@ abbrev pub NoLessDoes : Type 0
 NoLessDoes =
     (s : List ℕ) (waiting losses : ℕ) (o : List ℕ) (n : ℕ) (o′ : List ℕ) → Bytes s → Rebinds s waiting losses o (Written n) o′
     → NoLess s waiting losses (take n o′)
+
+-- A file with another trace has block 0 and the blocks of rows of the old file, byte for byte; behind them are the events alone.
+pub record TraceAlone (s trace f : List ℕ) : Type 0 where
+  pub start : take (rows-end (rows-of s)) f ≡ take (rows-end (rows-of s)) s
+  pub events : events-of f ≡ trace
+
+abbrev pub RetracedAlone : Type 0
+RetracedAlone =
+    (s trace o : List ℕ) (n : ℕ) (o′ : List ℕ) → Bytes s → Retraces s trace o (Written n) o′ → TraceAlone s trace (take n o′)

@@ -1,14 +1,15 @@
 -- A house file made from another, with other bounds or with another trace: the answer, and what it leaves in the buffer. Assumes nothing.
 use mathlib.Core.Path.{_≡_}
 use mathlib.Core.List.{List}
-use Prim.Native.Nat.{ℕ, _+_}
-use Rattle.block.specs.Limits.{payload-at, check-at}
+use Prim.Native.Nat.{ℕ, _+_, _*_}
+use lib.ListN.{length}
+use Rattle.block.specs.Limits.{block-size, payload-at, check-at}
 use Rattle.house.specs.File.{rows-of, events-of, contents-of}
 use Rattle.house.specs.Reading.{given, verdict}
 use Rattle.house.specs.declared.answer.Contents.{Contents}
 use Rattle.house.specs.declared.answer.Refusal.{Refusal}
 use Rattle.house.specs.declared.answer.Verdict.the-variants as verdict
-use Rattle.writer.specs.Writing.{Writes}
+use Rattle.writer.specs.Writing.{blocks-for, Writes}
 use Rattle.writer.specs.declared.answer.Writing.{Writing}
 use Rattle.writer.specs.declared.answer.Writing.the-variants.{Refused}
 
@@ -53,3 +54,7 @@ pub record Elsewhere (i : ℕ) : Type 0 where
 -- With this trace in place of its own.
 abbrev pub Retraces : List ℕ → List ℕ → List ℕ → Writing → List ℕ → Type 0
 Retraces s trace o w o′ = Remakes s (contents-of s .waiting) (contents-of s .losses) trace o w o′
+
+-- Where the rows end: behind block 0 and their own blocks.
+abbrev pub rows-end : List ℕ → ℕ
+rows-end rows = block-size * (1 + blocks-for (length rows))
