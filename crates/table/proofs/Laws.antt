@@ -1,13 +1,15 @@
--- Every statement of specs/Laws.antt, proved, under one roof: other crates take the laws from here. Assumes nothing.
+-- Every statement of specs/Laws.antt and specs/Numbers.antt, proved, under one roof: other crates take the laws from here. Assumes nothing.
 use mathlib.Core.Path.{refl}
 use Rattle.table.specs.Refusals.{told}
-use Rattle.table.specs.Laws.{FoundNone, FoundFirst, CountsPass, LengthPasses, EntriesPass, FirstTold, TablePasses, BoundsPass, EventsPass, FirstInvalid, SymbolMeans, GivenMeans, NextMeans, EventTold}
+use Rattle.table.specs.Laws.{FoundNone, FoundFirst, MustPasses, CountsPass, LengthPasses, EntriesPass, FirstTold, TablePasses, BoundsPass, EventsPass, FirstInvalid, SymbolMeans, GivenMeans, NextMeans, EventTold}
+use Rattle.table.specs.Numbers.{PassesOrTells, PassedTellsNone, OneTold, MustTells, StatesTold, SymbolsTold, CountsAmong, RowsTold, LengthAmong, EntryTold, EntriesAmong, WaitingTold, LossesTold, BoundsAmong, IndexTold, EventsAmong, TracePasses, InvalidByte}
 use Rattle.table.proofs.First
 use Rattle.table.proofs.Passing
 use Rattle.table.proofs.Rows
 use Rattle.table.proofs.Traces
 use Rattle.table.proofs.Symbols
 use Rattle.table.proofs.Bytes
+use Rattle.table.proofs.Numbers
 
 -- The first.
 pub found-none : FoundNone
@@ -17,6 +19,9 @@ pub found-first : FoundFirst
 found-first = First.found-first
 
 -- The tests.
+pub must-passes : MustPasses
+must-passes = Passing.must-passes
+
 pub counts-pass : CountsPass
 counts-pass = Passing.counts-pass
 
@@ -70,3 +75,58 @@ next-means = Bytes.next-means
 pub event-told : EventTold
 unfolding told
 event-told index = refl
+
+-- The numbers.
+pub passes-or-tells : PassesOrTells
+passes-or-tells = Numbers.passes-or-tells
+
+pub passed-tells-none : PassedTellsNone
+passed-tells-none = Numbers.passed-tells-none
+
+pub one-told : OneTold
+one-told = Numbers.one-told
+
+pub must-tells : MustTells
+must-tells = Numbers.must-tells
+
+pub states-told : StatesTold
+states-told = Numbers.states-told
+
+pub symbols-told : SymbolsTold
+symbols-told = Numbers.symbols-told
+
+pub counts-among : CountsAmong
+counts-among = Numbers.counts-among
+
+pub rows-told : RowsTold
+rows-told = Numbers.rows-told
+
+pub length-among : LengthAmong
+length-among = Numbers.length-among
+
+pub entry-told : EntryTold
+entry-told = Numbers.entry-told
+
+pub entries-among : EntriesAmong
+entries-among = Numbers.entries-among
+
+pub waiting-told : WaitingTold
+waiting-told = Numbers.waiting-told
+
+pub losses-told : LossesTold
+losses-told = Numbers.losses-told
+
+pub bounds-among : BoundsAmong
+bounds-among = Numbers.bounds-among
+
+pub index-told : IndexTold
+index-told = Numbers.index-told
+
+pub events-among : EventsAmong
+events-among = Numbers.events-among
+
+pub trace-passes : TracePasses
+trace-passes = Numbers.trace-passes
+
+pub invalid-byte : InvalidByte
+invalid-byte = Numbers.invalid-byte

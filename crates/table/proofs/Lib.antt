@@ -7,3 +7,4 @@ mod Reading
 mod Rows
 mod Passing
 mod Traces
+pub mod Numbers

@@ -12,12 +12,14 @@ use Rattle.model.specs.Table.{Table, width, entry, Valid, Bounded}
 use Rattle.model.specs.Model.{event, input, output}
 use Rattle.table.specs.Bytes.{symbol-of, next-of}
 use Rattle.table.specs.First.{first}
-use Rattle.table.specs.Tests.{counts-test, length-test, entries-test, bounds-test, invalid-at, events-test}
+use Rattle.table.specs.Tests.{must, counts-test, length-test, entries-test, bounds-test, invalid-at, events-test}
 use Rattle.table.specs.declared.answer.Symbol.{Symbol}
 use Rattle.table.specs.declared.answer.Symbol.the-variants.{Input, Output, Invalid}
 use Rattle.table.specs.declared.answer.Next.the-variants.{State, Nowhere}
 use Rattle.table.specs.Refusals.{told-at, told}
+use Rattle.table.specs.declared.answer.Refusal.{Refusal}
 use Rattle.table.specs.declared.answer.Refusal.the-variants.{Entry, Event}
+use Rattle.table.specs.declared.answer.Test.{Test}
 use Rattle.table.specs.declared.answer.Test.the-variants.{Passed, Refused}
 
 -- THE FIRST
@@ -32,6 +34,10 @@ FoundFirst =
     (p : ℕ → Bool) (n k : ℕ) → first p n ≡ some k ↔ ((k < n) × (p k ≡ true) × ((j : ℕ) → j < k → p j ≡ false))
 
 -- THE TESTS
+
+-- One test before others passes exactly when it holds and the others pass.
+abbrev pub MustPasses : Type 0
+MustPasses = (b : Bool) (r : Refusal) (t : Test) → must b r t ≡ Passed ↔ ((b ≡ true) × (t ≡ Passed))
 
 -- 2 and 3 are given exactly when a count is not within its limit.
 abbrev pub CountsPass : Type 0
@@ -59,11 +65,13 @@ pub record Bad (T : Table) (s k : ℕ) : Type 0 where
 abbrev pub Before : ℕ → ℕ → ℕ → ℕ → Type 0
 Before s k s′ k′ = (s < s′) ⊎ ((s ≡ s′) × (k < k′))
 
+-- The first row and column, reading row by row.
+abbrev pub FirstBad : Table → ℕ → ℕ → Type 0
+FirstBad T s k = Bad T s k × ((s′ k′ : ℕ) → Bad T s′ k′ → Before s′ k′ s k → ⊥)
+
 -- With 4 are told the first row and column, reading row by row.
 abbrev pub FirstTold : Type 0
-FirstTold =
-    (T : Table) (s k : ℕ)
-    → entries-test T ≡ Refused (Entry s k) ↔ (Bad T s k × ((s′ k′ : ℕ) → Bad T s′ k′ → Before s′ k′ s k → ⊥))
+FirstTold = (T : Table) (s k : ℕ) → entries-test T ≡ Refused (Entry s k) ↔ FirstBad T s k
 
 -- A table passes these three tests exactly when it is valid.
 abbrev pub TablePasses : Type 0

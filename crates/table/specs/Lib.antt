@@ -3,3 +3,4 @@ pub mod Bytes
 pub mod First
 pub mod Tests
 pub mod Laws
+pub mod Numbers
