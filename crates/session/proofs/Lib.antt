@@ -1,6 +1,7 @@
 pub mod Laws
 pub mod Padded
 pub mod Openings
+pub mod Numbers
 mod Found
 mod Clauses
 mod Passes
