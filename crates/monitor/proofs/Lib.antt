@@ -7,3 +7,4 @@ mod Steps
 mod Lines
 mod Feeding
 mod Sessions
+mod Numbers

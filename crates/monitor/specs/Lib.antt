@@ -2,3 +2,4 @@ pub mod Sweep
 pub mod Feed
 pub mod Event
 pub mod Laws
+pub mod Numbers
