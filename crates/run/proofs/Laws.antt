@@ -1,5 +1,7 @@
 -- Every statement of specs/Laws.antt, proved, under one roof: other crates take the laws from here. Assumes nothing.
 use Rattle.run.specs.Laws.{RunPasses, RoomDecides, OneLine, OneRun, RunsAsFed, NumberRead, BytesSay, EmptySet, EmptyTrace, RunsAllowMore}
+use Rattle.run.specs.Numbers.{RunTells, RanTest}
+use Rattle.run.proofs.Numbers
 use Rattle.run.proofs.Passing
 use Rattle.run.proofs.Bytes
 use Rattle.run.proofs.Whole
@@ -11,6 +13,12 @@ run-passes = Passing.run-passes
 
 pub room-decides : RoomDecides
 room-decides = Passing.room-decides
+
+pub run-tells : RunTells
+run-tells = Numbers.run-tells
+
+pub ran-test : RanTest
+ran-test = Numbers.ran-test
 
 -- The run.
 pub one-line : OneLine

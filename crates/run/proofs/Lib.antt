@@ -7,4 +7,5 @@ mod Passing
 pub mod Bytes
 mod Whole
 mod Written
+mod Numbers
 mod Running

@@ -1,4 +1,5 @@
 pub mod Run
+pub mod Numbers
 pub mod Column
 pub mod Lag
 pub mod Trace
