@@ -22,6 +22,12 @@ line-feed = 10
 abbrev pub dash : ℕ
 dash = 45
 
+-- The first line: "event symbol states waiting run".
+unfoldable pub header : List ℕ
+header =
+    101 ∷ 118 ∷ 101 ∷ 110 ∷ 116 ∷ space ∷ 115 ∷ 121 ∷ 109 ∷ 98 ∷ 111 ∷ 108 ∷ space ∷ 115 ∷ 116 ∷ 97 ∷ 116 ∷ 101 ∷ 115 ∷ space
+    ∷ 119 ∷ 97 ∷ 105 ∷ 116 ∷ 105 ∷ 110 ∷ 103 ∷ space ∷ 114 ∷ 117 ∷ 110 ∷ line-feed ∷ []
+
 -- i or o with the symbol;
 abbrev pub symbol : ℕ → List ℕ
 symbol b = cond (ltb b 128) (105 ∷ decimal b) (111 ∷ decimal (b - 128))

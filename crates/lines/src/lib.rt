@@ -4,7 +4,7 @@ ghost use mathlib.Core.List.{[], _∷_};
 ghost use Prim.Native.Nat.{_≤_, _+_};
 ghost use lib.ListN.{getD};
 ghost use Rattle.lines.specs.Texts.{text-of, Adds, decimal, hexadecimal};
-ghost use Rattle.lines.specs.Lines.{space, line-feed, symbol, four, states-in, pair, has-second, second-place, event-line, last-line, refused-line};
+ghost use Rattle.lines.specs.Lines.{space, line-feed, symbol, four, states-in, pair, has-second, second-place, header, event-line, last-line, refused-line};
 use session::Flag;
 use table::Told;
 
@@ -12,8 +12,11 @@ pub mod text;
 
 pub use text::Text;
 
+// The listing's first line.
+const HEADER: [u8; 32] = *b"event symbol states waiting run\n";
+
 // Byte i; past the end, 0.
-fn byte(bytes: &[u8], i: usize) -> u8
+pub fn byte(bytes: &[u8], i: usize) -> u8
     ensures { λ r. ⌜ r ≡ getD (now (bytes .entry)) i 0 ⌝ }
 {
     if i < bytes.len() {
@@ -87,6 +90,13 @@ fn add_states(t: Text, n: u64) -> Text
 {
     let s = text::add(t, b' ');
     text::add_hexadecimal(s, n)
+}
+
+// The first line of a listing.
+pub fn first() -> Text
+    ensures { λ r. ⌜ r ≡ text-of header ⌝ }
+{
+    text::add_all(text::empty(), &HEADER)
 }
 
 // The line of event k, of this byte and these twelve bytes of a run's results.

@@ -74,7 +74,7 @@ module _ (s : List ℕ) (c : Contents) (g : GoodFile s c) where
   table-good source.Rows rows h = h
   table-good source.Standard rows (a, b, d, e) = rw (a, b, d) is-valid
 
-  opens : opening (rows-meant (c .source) (rows-of s)) (c .states) (c .inputs) (c .outputs) (c .waiting) (c .losses) ≡ Passed
+  pub opens : opening (rows-meant (c .source) (rows-of s)) (c .states) (c .inputs) (c .outputs) (c .waiting) (c .losses) ≡ Passed
   opens = opening-passes _ (c .states) (c .inputs) (c .outputs) (c .waiting) (c .losses) .1 (table-good (c .source) (rows-of s) (g .contents .table), g .contents .bounds)
 
   trace-good : GoodTrace (events-of s) (c .inputs) (c .outputs)

@@ -1,35 +1,21 @@
 -- Every statement of specs/Laws.antt, proved. Assumes nothing.
 use mathlib.Core.Path.{_≡_, refl, sym, _∙_, ap}
-use mathlib.Core.List.{List}
-use Prim.Native.Nat.{ℕ, _≤_}
+use Prim.Native.Nat.{ℕ}
 use native.Mathlib.Omega.{arith}
 use lib.ListN.{length}
 use Rattle.run.specs.Run.{ran}
 use Rattle.run.specs.declared.Ran.{Ran}
 use Rattle.session.specs.declared.Flag.{Flag}
 use Rattle.run.proofs.Laws.{one-run}
-use Rattle.house.specs.File.{rows-of, events-of, contents-of}
-use Rattle.house.specs.Laws.{GoodFile}
-use Rattle.house.specs.Reading.{verdict}
-use Rattle.house.specs.declared.answer.Refusal.{Refusal}
-use Rattle.house.specs.declared.answer.Verdict.the-variants as verdict
-use Rattle.house.proofs.Laws.{rows-fit, read-exactly}
-use Rattle.lister.specs.Judging.{row-room, Judges, refused, cramped, listed}
-use Rattle.lister.specs.Laws.{OneJudging, GoodListed, OnlyBadRefused}
+use Rattle.house.specs.File.{events-of, contents-of}
+use Rattle.house.proofs.Laws.{read-exactly}
+use Rattle.lister.specs.Judging.{row-room, refused, cramped, listed}
+use Rattle.lister.specs.Laws.{OneJudging, GoodListed, OnlyBadRefused, PiecesJoined, PieceFits, PieceHeld, LastSays, OneSaid, GoodText, OtherText, OneListing}
 use Rattle.lister.proofs.Judging.{run-good}
+use Rattle.lister.proofs.Listed.{clash, refusals, passes}
+use Rattle.lister.proofs.Joined
+use Rattle.lister.proofs.Listed
 use Rattle.lister.specs.declared.judge.Judged.the-variants.{Refused, Ran as Listed}
-
--- the rows of a good file fit, so nothing refuses it
-passes : (s e : List ℕ) → 4096 ≤ length e → GoodFile s (contents-of s) → verdict s row-room (length e) ≡ verdict.Passed
-passes s e l g =
-    read-exactly s row-room (length e) .1
-    (g, rows-fit (contents-of s) (rows-of s) (events-of s) (g .contents), omega (arith, g .contents .few))
-
-clash : {r : Refusal} → verdict.Passed ≡ verdict.Refused r → ⊥
-clash e = let z : _≡_ {A = ℕ} 0 1 = cc in omega arith
-
-refusals : {a b : Refusal} → verdict.Refused a ≡ verdict.Refused b → a ≡ b
-refusals e = cc
 
 pub one-judging : OneJudging
 one-judging s e o j₁ j₂ e₁ e₂ o₁ o₂ (refused x) (refused y) = (ap Refused (refusals (sym x ∙ y)), refl, refl)
@@ -47,9 +33,35 @@ one-judging s e o j₁ j₂ e₁ e₂ o₁ o₂ (listed {f} v l r) (listed {f = 
     (ap (λ (x : Flag). Listed (length (events-of s)) x) (ap (λ (x : Ran). x .flag) a), refl, b)
 
 pub good-listed : GoodListed
-good-listed s e o j e′ o′ l m g (refused x) = absurd (clash (sym (passes s e l g) ∙ x))
+good-listed s e o j e′ o′ l m g (refused x) = absurd (clash (sym (passes s (length e) l g) ∙ x))
 good-listed s e o j e′ o′ l m g (cramped v x) = absurd (omega (arith, g .contents .few))
 good-listed s e o j e′ o′ l m g (listed {f} v r w) = (f, refl, w)
 
 pub only-bad-refused : OnlyBadRefused
 only-bad-refused s e o r e′ o′ l m h g = let (f, x, w) = good-listed s e o (Refused r) e′ o′ l m g h in let z : _≡_ {A = ℕ} 0 1 = cc in omega arith
+
+-- Piece by piece.
+pub pieces-joined : PiecesJoined
+pieces-joined = Joined.pieces-joined
+
+pub piece-fits : PieceFits
+piece-fits = Joined.piece-fits
+
+pub piece-held : PieceHeld
+piece-held = Joined.piece-held
+
+pub last-says : LastSays
+last-says = Joined.last-piece-says
+
+pub one-said : OneSaid
+one-said = Joined.one-said
+
+-- The listing of a file.
+pub good-text : GoodText
+good-text = Listed.good-text
+
+pub other-text : OtherText
+other-text = Listed.other-text
+
+pub one-listing : OneListing
+one-listing = Listed.one-listing
