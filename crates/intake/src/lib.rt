@@ -3,7 +3,7 @@
 ghost use mathlib.Core.Path.{_≡_};
 ghost use Prim.Native.Nat.{_+_, min};
 ghost use lib.ListN.{replicate, take};
-ghost use Rattle.io.specs.Counts.{Counts};
+ghost use Rattle.intake.specs.Inputs.{counted, is-whole, input-of, Keeps};
 
 // One byte more than the longest house file, so that a file that is too long shows.
 const FILE_ROOM: usize = 7681;
@@ -56,19 +56,35 @@ fn next(fd: i32) -> Read {
     }
 }
 
+// What one read leaves of the count: more bytes, or how the input ended.
+enum Counted {
+    More(usize),
+    Over(Ended),
+}
+
+// The count after one read more.
+fn count(total: usize, read: Read) -> Counted
+    ensures { λ r. ⌜ r ≡ counted total read ⌝ }
+{
+    if read.failed {
+        return Counted::Over(Ended::Failed);
+    }
+    if read.bytes == 0 {
+        return Counted::Over(Ended::After(total));
+    }
+    Counted::More(sum(total, read.bytes))
+}
+
 // Reads to the end, and keeps nothing.
 pub fn rest(fd: i32) -> Ended {
     let mut total: usize = 0;
     let mut reads: usize = 0;
     while reads < MOST_READS {
-        let read = next(fd);
-        if read.failed {
-            return Ended::Failed;
+        let counted = count(total, next(fd));
+        match counted {
+            Counted::Over(ended) => return ended,
+            Counted::More(more) => total = more,
         }
-        if read.bytes == 0 {
-            return Ended::After(total);
-        }
-        total = sum(total, read.bytes);
         reads += 1;
     }
     Ended::Failed
@@ -84,10 +100,20 @@ pub fn sum(a: usize, b: usize) -> usize
     18446744073709551615
 }
 
-// What came of an input of which n bytes were kept, in so much room. One that ended and then went on is not whole: what came between
-// was not kept.
+// Whether an input was read whole, of which n bytes were kept, in so much room, and then so many came. One that ended and then went on
+// was not: what came between was not kept.
+fn is_whole(n: usize, room: usize, more: usize) -> bool
+    ensures { λ r. ⌜ r ≡ is-whole n room more ⌝ }
+{
+    if more == 0 {
+        return true;
+    }
+    n == room
+}
+
+// What came of an input of which n bytes were kept, in so much room.
 fn told(n: usize, room: usize, ended: Ended) -> Input
-    ensures { λ r. ⌜ r .kept ≡ n ⌝ }
+    ensures { λ r. ⌜ r ≡ input-of n room ended ⌝ }
 {
     match ended {
         Ended::Failed => Input {
@@ -96,7 +122,7 @@ fn told(n: usize, room: usize, ended: Ended) -> Input
             length: n,
         },
         Ended::After(more) => Input {
-            whole: more == 0 || n == room,
+            whole: is_whole(n, room, more),
             kept: n,
             length: sum(n, more),
         },
@@ -105,7 +131,7 @@ fn told(n: usize, room: usize, ended: Ended) -> Input
 
 // Reads an input to its end; what fits stands at the start of the buffer.
 pub fn keep(fd: i32, buffer: &mut [u8]) -> Input
-    ensures { λ r. ⌜ Counts (r .kept) (now (buffer .exit)) ⌝ }
+    ensures { λ r. ⌜ Keeps (now (buffer .exit)) r ⌝ }
 {
     let n = io::read_full(fd, buffer);
     let ended = rest(fd);

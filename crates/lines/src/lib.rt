@@ -4,7 +4,8 @@ ghost use mathlib.Core.List.{[], _∷_};
 ghost use Prim.Native.Nat.{_≤_, _+_};
 ghost use lib.ListN.{getD};
 ghost use Rattle.lines.specs.Texts.{text-of, Adds, decimal, hexadecimal};
-ghost use Rattle.lines.specs.Lines.{space, line-feed, symbol, four, states-in, pair, has-second, second-place, header, event-line, last-line, refused-line};
+ghost use Rattle.lines.specs.Lines.{space, line-feed, symbol, four, states-in, pair, has-second, second-place};
+ghost use Rattle.lines.specs.Lines.{header, event-line, last-line, refused-line};
 use session::Flag;
 use table::Told;
 

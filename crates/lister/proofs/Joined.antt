@@ -36,8 +36,8 @@ joined-more text k = refl
 pub joined-same : (a b : ℕ → List ℕ) (n : ℕ) → ((k : ℕ) → k < n → a k ≡ b k) → joined a n ≡ joined b n
 joined-same a b zero h = joined-none a ∙ sym (joined-none b)
 joined-same a b (suc n) h =
-    joined-more a n ∙ ap (λ (x : List ℕ). x ++ a n) (joined-same a b n (λ k l. h k (omega arith))) ∙ ap (λ (x : List ℕ). joined b n ++ x) (h n (omega arith))
-    ∙ sym (joined-more b n)
+    joined-more a n ∙ ap (λ (x : List ℕ). x ++ a n) (joined-same a b n (λ k l. h k (omega arith)))
+    ∙ ap (λ (x : List ℕ). joined b n ++ x) (h n (omega arith)) ∙ sym (joined-more b n)
 
 module _ (m : ℕ) (f : Flag) (events results : List ℕ) where
   abbrev piece : ℕ → List ℕ
@@ -71,7 +71,8 @@ module _ (m : ℕ) (f : Flag) (events results : List ℕ) where
 
 pub pieces-joined : PiecesJoined
 pieces-joined (Refused r) n events results =
-    joined-more (λ k. refused-line (told (true-length r n))) 0 ∙ ap (λ (x : List ℕ). x ++ refused-line (told (true-length r n))) (joined-none (λ k. refused-line (told (true-length r n))))
+    let one : ℕ → List ℕ = λ k. refusal-line r n in
+    joined-more one 0 ∙ ap (λ (x : List ℕ). x ++ refusal-line r n) (joined-none one)
 pieces-joined (Listed m f) n events results = all m f events results
 
 -- NOTHING IS CUT SHORT
@@ -94,7 +95,8 @@ twelve-bytes results k h = go (ltb k (length results / 12))
     go true = taken (drop (12 * k) results) 12 (λ i. rw (getD-drop (12 * k) results i 0) (h (12 * k + i)))
     go false = λ i. omega arith
 
-run-fits : (m : ℕ) (f : Flag) (events results : List ℕ) (k : ℕ) → Bytes events → Bytes results → length (run-piece m f events results k) ≤ most-text
+run-fits : (m : ℕ) (f : Flag) (events results : List ℕ) (k : ℕ) → Bytes events → Bytes results
+    → length (run-piece m f events results k) ≤ most-text
 run-fits m f events results k b h = go (eqb k 0) (leb k m)
   where
     go : (s t : Bool) → length (cond s header (cond t (line-at events results (k - 1)) (last-line f))) ≤ most-text
@@ -113,16 +115,16 @@ piece-held j n events results k b h = text-holds (piece-of j n events results k)
 abbrev Holds : Text → List ℕ → Type 0
 Holds t l = (t ≡ text-of l) × (take (t .used) (t .bytes) ≡ l)
 
-holds : {t : Text} (j : Judged) (n : ℕ) (events results : List ℕ) (k : ℕ) → Bytes events → Bytes results → t ≡ text-of (piece-of j n events results k)
-    → Holds t (piece-of j n events results k)
+holds : {t : Text} (j : Judged) (n : ℕ) (events results : List ℕ) (k : ℕ) → Bytes events → Bytes results
+    → t ≡ text-of (piece-of j n events results k) → Holds t (piece-of j n events results k)
 holds j n events results k b h e = (e, rw e (piece-held j n events results k b h))
 
-pub refused-piece : {t : Text} (j : Judged) {r : Refusal} (n : ℕ) (events results : List ℕ) (k : ℕ) → Bytes events → Bytes results → j ≡ Refused r
-    → t ≡ text-of (refusal-line r n) → Holds t (piece-of j n events results k)
+pub refused-piece : {t : Text} (j : Judged) {r : Refusal} (n : ℕ) (events results : List ℕ) (k : ℕ) → Bytes events → Bytes results
+    → j ≡ Refused r → t ≡ text-of (refusal-line r n) → Holds t (piece-of j n events results k)
 refused-piece j n events results k b h e x = holds j n events results k b h (rw e x)
 
-pub listed-piece : {t : Text} (j : Judged) {m : ℕ} {f : Flag} (n : ℕ) (events results : List ℕ) (k : ℕ) → Bytes events → Bytes results → j ≡ Listed m f
-    → t ≡ text-of (run-piece m f events results k) → Holds t (piece-of j n events results k)
+pub listed-piece : {t : Text} (j : Judged) {m : ℕ} {f : Flag} (n : ℕ) (events results : List ℕ) (k : ℕ) → Bytes events → Bytes results
+    → j ≡ Listed m f → t ≡ text-of (run-piece m f events results k) → Holds t (piece-of j n events results k)
 listed-piece j n events results k b h e x = holds j n events results k b h (rw e x)
 
 -- WHAT THE LAST LINE SAYS
@@ -144,7 +146,8 @@ last-piece-says (Listed m f) n events results =
     rw p (last-says f)
 
 -- two words that begin with different letters
-apart : (u v line : List ℕ) → 0 < length u → 0 < length v → (getD u 0 0 ≡ getD v 0 0 → ⊥) → take (length u) line ≡ u → take (length v) line ≡ v → ⊥
+apart : (u v line : List ℕ) → 0 < length u → 0 < length v → (getD u 0 0 ≡ getD v 0 0 → ⊥) → take (length u) line ≡ u
+    → take (length v) line ≡ v → ⊥
 apart u v line p q h e f =
     h
     (sym (ap (λ (x : List ℕ). getD x 0 0) e) ∙ getD-take (length u) line 0 0 p ∙ sym (getD-take (length v) line 0 0 q)
@@ -152,15 +155,21 @@ apart u v line p q h e f =
 
 pub one-said : OneSaid
 one-said outcome.Consistent outcome.Consistent l p q = refl
-one-said outcome.Consistent outcome.Flagged l p q = absurd (apart consistent flagged l (omega arith) (omega arith) (λ e. omega (arith, e)) p q)
-one-said outcome.Consistent outcome.Refused l p q = absurd (apart consistent refused l (omega arith) (omega arith) (λ e. omega (arith, e)) p q)
+one-said outcome.Consistent outcome.Flagged l p q =
+    absurd (apart consistent flagged l (omega arith) (omega arith) (λ e. omega (arith, e)) p q)
+one-said outcome.Consistent outcome.Refused l p q =
+    absurd (apart consistent refused l (omega arith) (omega arith) (λ e. omega (arith, e)) p q)
 one-said outcome.Consistent outcome.Broken l p q = absurd q
-one-said outcome.Flagged outcome.Consistent l p q = absurd (apart flagged consistent l (omega arith) (omega arith) (λ e. omega (arith, e)) p q)
+one-said outcome.Flagged outcome.Consistent l p q =
+    absurd (apart flagged consistent l (omega arith) (omega arith) (λ e. omega (arith, e)) p q)
 one-said outcome.Flagged outcome.Flagged l p q = refl
-one-said outcome.Flagged outcome.Refused l p q = absurd (apart flagged refused l (omega arith) (omega arith) (λ e. omega (arith, e)) p q)
+one-said outcome.Flagged outcome.Refused l p q =
+    absurd (apart flagged refused l (omega arith) (omega arith) (λ e. omega (arith, e)) p q)
 one-said outcome.Flagged outcome.Broken l p q = absurd q
-one-said outcome.Refused outcome.Consistent l p q = absurd (apart refused consistent l (omega arith) (omega arith) (λ e. omega (arith, e)) p q)
-one-said outcome.Refused outcome.Flagged l p q = absurd (apart refused flagged l (omega arith) (omega arith) (λ e. omega (arith, e)) p q)
+one-said outcome.Refused outcome.Consistent l p q =
+    absurd (apart refused consistent l (omega arith) (omega arith) (λ e. omega (arith, e)) p q)
+one-said outcome.Refused outcome.Flagged l p q =
+    absurd (apart refused flagged l (omega arith) (omega arith) (λ e. omega (arith, e)) p q)
 one-said outcome.Refused outcome.Refused l p q = refl
 one-said outcome.Refused outcome.Broken l p q = absurd q
 one-said outcome.Broken b l p q = absurd p

@@ -10,7 +10,8 @@ use Rattle.run.proofs.Laws.{one-run}
 use Rattle.house.specs.File.{events-of, contents-of}
 use Rattle.house.proofs.Laws.{read-exactly}
 use Rattle.lister.specs.Judging.{row-room, refused, cramped, listed}
-use Rattle.lister.specs.Laws.{OneJudging, GoodListed, OnlyBadRefused, PiecesJoined, PieceFits, PieceHeld, LastSays, OneSaid, GoodText, OtherText, OneListing}
+use Rattle.lister.specs.Laws.{OneJudging, GoodListed, OnlyBadRefused, PiecesJoined, PieceFits, PieceHeld, LastSays, OneSaid}
+use Rattle.lister.specs.Laws.{GoodText, OtherText, OneListing}
 use Rattle.lister.proofs.Judging.{run-good}
 use Rattle.lister.proofs.Listed.{clash, refusals, passes}
 use Rattle.lister.proofs.Joined

@@ -18,7 +18,8 @@ use Rattle.flaw.specs.declared.Test.the-variants as test
 use Rattle.block.specs.Block.{block-test}
 use Rattle.house.specs.Limits.{most-bytes, most-events}
 use Rattle.house.specs.File.{block-at, blocks, block-before, rows-of, events-of, contents-of}
-use Rattle.house.specs.Reading.{is-whole, is-standard, states-held, valid-events, blocks-test, form-test, shape-test, rows-test, limits-test, events-test, held-test, room-test, content-test, verdict}
+use Rattle.house.specs.Reading.{is-whole, is-standard, states-held, valid-events, blocks-test, form-test, verdict}
+use Rattle.house.specs.Reading.{shape-test, rows-test, limits-test, events-test, held-test, room-test, content-test}
 use Rattle.house.specs.Verdicts.{must, of-block, of-table, then}
 use Rattle.house.specs.declared.answer.Contents.{Contents}
 use Rattle.house.specs.declared.answer.Refusal.{Refusal}
@@ -72,7 +73,8 @@ module _ (c : Contents) where
       let counts = counts-test (c .states) (c .inputs) (c .outputs) in
       let rows = length-test (c .rows) (states-held (c .source) (c .states)) (c .inputs) (c .outputs) in
       let box = is-standard (c .source) (c .states) (c .inputs) (c .outputs) in
-      of-then (of-table counts) _ (of-content counts) (of-then (must box Standard) _ (of-must box Standard is-standard-told) (of-content rows))
+      of-then (of-table counts) _ (of-content counts)
+      (of-then (must box Standard) _ (of-must box Standard is-standard-told) (of-content rows))
 
   of-limits : Otherwise (limits-test c)
   unfolding limits-test

@@ -29,7 +29,8 @@ use Rattle.house.specs.declared.answer.Verdict.{Verdict}
 use Rattle.house.specs.declared.answer.Verdict.the-variants as verdict
 use Rattle.house.proofs.Laws.{rows-fit, read-exactly}
 use Rattle.lister.specs.Judging.{row-room, RunsFile, Judges, refused, cramped, listed}
-use Rattle.lister.specs.Listing.{event-room, result-room, twelve-of, line-at, refusal-line, joined, listing-of, outcome-of, verdict-of, Kept, Lists}
+use Rattle.lister.specs.Listing.{event-room, result-room, twelve-of, line-at, refusal-line, joined, listing-of}
+use Rattle.lister.specs.Listing.{outcome-of, verdict-of, Kept, Lists}
 use Rattle.lister.specs.Laws.{table-meant, PlausibleAfter, GoodListing, GoodText, OtherListing, OtherText, OneListing}
 use Rattle.lister.specs.declared.Outcome.{Outcome}
 use Rattle.lister.specs.declared.judge.Judged.{Judged}
@@ -64,7 +65,8 @@ long f s h (m, l, e) = rw (e, length-take m f) (omega arith)
 
 -- the twelve bytes of an event, one by one
 twelve-at : (results : List ℕ) (k j : ℕ) → k < length results / 12 → j < 12 → getD (twelve-of results k) j 0 ≡ getD results (12 * k + j) 0
-twelve-at results k j h l = rw (lt-ltb k (length results / 12) h) (getD-take 12 (drop (12 * k) results) j 0 l ∙ getD-drop (12 * k) results j 0)
+twelve-at results k j h l =
+    rw (lt-ltb k (length results / 12) h) (getD-take 12 (drop (12 * k) results) j 0 l ∙ getD-drop (12 * k) results j 0)
 
 twelve-long : (results : List ℕ) (k : ℕ) → k < length results / 12 → length (twelve-of results k) ≡ 12
 twelve-long results k h = rw (lt-ltb k (length results / 12) h) (simp (length-take, length-drop) (omega arith))
@@ -78,8 +80,8 @@ tells-as e t = rw e at t
 
 -- OF A GOOD FILE
 
-good-from : (f e o : List ℕ) (j : Judged) (e′ o′ : List ℕ) (n : ℕ) → length e ≡ event-room → length o ≡ result-room → GoodFile f (contents-of f)
-    → Judges f e o j e′ o′ → GoodListing f (listing-of j n e′ o′) (outcome-of j)
+good-from : (f e o : List ℕ) (j : Judged) (e′ o′ : List ℕ) (n : ℕ) → length e ≡ event-room → length o ≡ result-room
+    → GoodFile f (contents-of f) → Judges f e o j e′ o′ → GoodListing f (listing-of j n e′ o′) (outcome-of j)
 good-from f e o j e′ o′ n le lo g (refused x) = absurd (clash (sym (passes f (length e) (omega arith) g) ∙ x))
 good-from f e o j e′ o′ n le lo g (cramped v x) = absurd (omega (arith, g .contents .few))
 good-from f e o j e′ o′ n le lo g (listed {f = flag} v m w) =
@@ -99,13 +101,17 @@ good-from f e o j e′ o′ n le lo g (listed {f = flag} v m w) =
         → Tells (PlausibleAfter f (suc k)) k (getD (events-of f) k 0) (line-at (front e (events-of f)) o′ k)
     tells k l =
         tells-as (ap (λ (b : ℕ). event-line k b (twelve-of o′ k)) (sym (event-at e (events-of f) k l)))
-        (line-tells _ _ _ _ _ _ (events-of f) o o′ flag k (twelve-of o′ k) (opens f (contents-of f) g) w l (λ i h. twelve-at o′ k i (within k l) h))
+        (line-tells _ _ _ _ _ _ (events-of f) o o′ flag k (twelve-of o′ k) (opens f (contents-of f) g) w l
+        (λ i h. twelve-at o′ k i (within k l) h))
 
 pub good-text : GoodText
 good-text f text r g x =
     let s = x .leaves in
-    let h : Judges f (s .events-before) (s .results-before) (x .judged) (x .events) (x .results) = rw (whole f (x .kept) (good-short f g) (x .is-kept)) at (s .judges) in
-    rw (x .text-is, x .outcome-is) (good-from f (s .events-before) (s .results-before) (x .judged) (x .events) (x .results) (length f) (s .event-room-is) (s .result-room-is) g h)
+    let same : x .kept ≡ f = whole f (x .kept) (good-short f g) (x .is-kept) in
+    let h : Judges f (s .events-before) (s .results-before) (x .judged) (x .events) (x .results) = rw same at (s .judges) in
+    rw (x .text-is, x .outcome-is)
+    (good-from f (s .events-before) (s .results-before) (x .judged) (x .events) (x .results) (length f) (s .event-room-is)
+    (s .result-room-is) g h)
 
 -- OF ANY OTHER FILE
 
@@ -141,11 +147,13 @@ other-text f text r bad x =
     rw (x .text-is, x .outcome-is)
     (elim (decLe (length f) most-bytes) [
       | yes l ↦
-          let h : Judges f (s .events-before) (s .results-before) (x .judged) (x .events) (x .results) = rw (whole f (x .kept) l (x .is-kept)) at (s .judges) in
+          let same : x .kept ≡ f = whole f (x .kept) l (x .is-kept) in
+          let h : Judges f (s .events-before) (s .results-before) (x .judged) (x .events) (x .results) = rw same at (s .judges) in
           other-from f (s .events-before) (s .results-before) (x .judged) (x .events) (x .results) (s .event-room-is) bad h
       | no n ↦
           let l : most-bytes < length f = omega (arith, n) in
-          long-from f (x .kept) (s .events-before) (s .results-before) (x .judged) (x .events) (x .results) l (long f (x .kept) l (x .is-kept)) (s .judges)
+          long-from f (x .kept) (s .events-before) (s .results-before) (x .judged) (x .events) (x .results) l
+          (long f (x .kept) l (x .is-kept)) (s .judges)
     ])
 
 -- ONE LISTING
@@ -171,15 +179,18 @@ same-twelve f o₁ o₂ a b x y v w k l p q =
 same-flag : (f : List ℕ) (o₁ o₂ a b : List ℕ) (x y : Flag) → RunsFile f o₁ a x → RunsFile f o₂ b y → x ≡ y
 same-flag f o₁ o₂ a b x y v w =
     one-place x y
-    (one-flag (box (table-meant f)) (contents-of f .waiting) (contents-of f .losses) (events (events-of f)) (place-of x) (place-of y) (v .flag) (w .flag))
+    (one-flag (box (table-meant f)) (contents-of f .waiting) (contents-of f .losses) (events (events-of f)) (place-of x) (place-of y)
+    (v .flag) (w .flag))
 
 -- two listings of one good file
 one-good : (f e₁ o₁ e₂ o₂ : List ℕ) (j₁ j₂ : Judged) (e₁′ o₁′ e₂′ o₂′ : List ℕ) (n : ℕ) → length e₁ ≡ event-room → length e₂ ≡ event-room
     → GoodFile f (contents-of f) → length o₁ ≡ result-room → length o₂ ≡ result-room
-    → Judges f e₁ o₁ j₁ e₁′ o₁′ → Judges f e₂ o₂ j₂ e₂′ o₂′ → (listing-of j₁ n e₁′ o₁′ ≡ listing-of j₂ n e₂′ o₂′) × (outcome-of j₁ ≡ outcome-of j₂)
+    → Judges f e₁ o₁ j₁ e₁′ o₁′ → Judges f e₂ o₂ j₂ e₂′ o₂′
+    → (listing-of j₁ n e₁′ o₁′ ≡ listing-of j₂ n e₂′ o₂′) × (outcome-of j₁ ≡ outcome-of j₂)
 one-good f e₁ o₁ e₂ o₂ j₁ j₂ a b c d n l₁ l₂ g m₁ m₂ (refused x) y = absurd (clash (sym (passes f (length e₁) (omega arith) g) ∙ x))
 one-good f e₁ o₁ e₂ o₂ j₁ j₂ a b c d n l₁ l₂ g m₁ m₂ (cramped v x) y = absurd (omega (arith, g .contents .few))
-one-good f e₁ o₁ e₂ o₂ j₁ j₂ a b c d n l₁ l₂ g m₁ m₂ (listed v p w) (refused x) = absurd (clash (sym (passes f (length e₂) (omega arith) g) ∙ x))
+one-good f e₁ o₁ e₂ o₂ j₁ j₂ a b c d n l₁ l₂ g m₁ m₂ (listed v p w) (refused x) =
+    absurd (clash (sym (passes f (length e₂) (omega arith) g) ∙ x))
 one-good f e₁ o₁ e₂ o₂ j₁ j₂ a b c d n l₁ l₂ g m₁ m₂ (listed v p w) (cramped v′ x) = absurd (omega (arith, g .contents .few))
 one-good f e₁ o₁ e₂ o₂ j₁ j₂ a b c d n l₁ l₂ g m₁ m₂ (listed {f = x} v p w) (listed {f = y} v′ p′ w′) =
     let flags : x ≡ y = same-flag f o₁ o₂ b d x y w w′ in
@@ -196,7 +207,8 @@ one-good f e₁ o₁ e₂ o₂ j₁ j₂ a b c d n l₁ l₂ g m₁ m₂ (listed
         ap (λ (z : ℕ). event-line k z (twelve-of b k)) (event-at e₁ (events-of f) k l ∙ sym (event-at e₂ (events-of f) k l))
         ∙ ap (event-line k (getD (front e₂ (events-of f)) k 0)) (same-twelve f o₁ o₂ b d x y w w′ k l p₁ p₂)
 
-one-from : (v : Verdict) (f t₁ t₂ : List ℕ) (r₁ r₂ : Outcome) → verdict f row-room event-room ≡ v → Lists f t₁ r₁ → Lists f t₂ r₂ → (t₁ ≡ t₂) × (r₁ ≡ r₂)
+one-from : (v : Verdict) (f t₁ t₂ : List ℕ) (r₁ r₂ : Outcome) → verdict f row-room event-room ≡ v → Lists f t₁ r₁ → Lists f t₂ r₂
+    → (t₁ ≡ t₂) × (r₁ ≡ r₂)
 one-from verdict.Passed f t₁ t₂ r₁ r₂ v x y =
     let g : GoodFile f (contents-of f) = read-exactly f row-room event-room .0 v .0 in
     let s = x .leaves in
@@ -204,8 +216,8 @@ one-from verdict.Passed f t₁ t₂ r₁ r₂ v x y =
     let h = rw (whole f (x .kept) (good-short f g) (x .is-kept)) at (s .judges) in
     let i = rw (whole f (y .kept) (good-short f g) (y .is-kept)) at (t .judges) in
     let (p, q) =
-    one-good f (s .events-before) (s .results-before) (t .events-before) (t .results-before) (x .judged) (y .judged) (x .events) (x .results) (y .events)
-    (y .results) (length f) (s .event-room-is) (t .event-room-is) g (s .result-room-is) (t .result-room-is) h i in
+    one-good f (s .events-before) (s .results-before) (t .events-before) (t .results-before) (x .judged) (y .judged) (x .events)
+    (x .results) (y .events) (y .results) (length f) (s .event-room-is) (t .event-room-is) g (s .result-room-is) (t .result-room-is) h i in
     (x .text-is ∙ p ∙ sym (y .text-is), x .outcome-is ∙ q ∙ sym (y .outcome-is))
 one-from (verdict.Refused r) f t₁ t₂ r₁ r₂ v x y =
     let bad : GoodFile f (contents-of f) → ⊥ = λ g. clash (sym (passes f event-room (omega arith) g) ∙ v) in

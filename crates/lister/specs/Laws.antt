@@ -58,7 +58,8 @@ Bytes l = (i : ℕ) → getD l i 0 < 256
 -- No piece is cut short: each fits in a text, whose used bytes it is.
 abbrev pub PieceFits : Type 0
 PieceFits =
-    (j : Judged) (n : ℕ) (events results : List ℕ) (k : ℕ) → Bytes events → Bytes results → length (piece-of j n events results k) ≤ most-text
+    (j : Judged) (n : ℕ) (events results : List ℕ) (k : ℕ) → Bytes events → Bytes results
+    → length (piece-of j n events results k) ≤ most-text
 
 abbrev pub PieceHeld : Type 0
 PieceHeld =

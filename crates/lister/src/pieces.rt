@@ -9,7 +9,8 @@ ghost use mathlib.Core.Path.{_≡_};
 ghost use Prim.Native.Nat.{_≤_};
 ghost use lib.ListN.{take};
 ghost use Rattle.lines.specs.Texts.{text-of};
-ghost use Rattle.lister.specs.Listing.{event-room, twelve-of, line-at, run-piece, piece-of, refusal-line, events-in, pieces-of, true-length, verdict-of, outcome-of};
+ghost use Rattle.lister.specs.Listing.{event-room, twelve-of, line-at, run-piece, piece-of, refusal-line, true-length};
+ghost use Rattle.lister.specs.Listing.{events-in, pieces-of, verdict-of, outcome-of};
 
 // The twelve bytes of event k among a run's results; none, where there are not so many.
 fn twelve(results: &[u8], k: usize) -> &[u8]

@@ -21,14 +21,16 @@ returns : tie.Need-returns
 returns c =
     let known = c .before .before .before .before in
     let a = known .before .before .args in
-    refused-piece (a .judged) (a .length) (a .events .now) (a .results .now) (a .k) (λ i. omega (arith, known .before .shared-slice-known .given i))
+    refused-piece (a .judged) (a .length) (a .events .now) (a .results .now) (a .k)
+    (λ i. omega (arith, known .before .shared-slice-known .given i))
     (λ i. omega (arith, known .shared-slice-known2 .given i)) (c .before .before .judged .given .1) (c .of-refusal .ensures)
 
 returns-2 : tie.Need-returns-2
 returns-2 c =
     let known = c .before .before .before .before in
     let a = known .before .before .args in
-    listed-piece (a .judged) (a .length) (a .events .now) (a .results .now) (a .k) (λ i. omega (arith, known .before .shared-slice-known .given i))
+    listed-piece (a .judged) (a .length) (a .events .now) (a .results .now) (a .k)
+    (λ i. omega (arith, known .before .shared-slice-known .given i))
     (λ i. omega (arith, known .shared-slice-known2 .given i)) (c .before .before .judged2 .given .1) (c .of-run .ensures)
 
 pub piece-spec : {M : Type 1} → statement M
