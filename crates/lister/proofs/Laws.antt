@@ -11,10 +11,11 @@ use Rattle.house.specs.File.{events-of, contents-of}
 use Rattle.house.proofs.Laws.{read-exactly}
 use Rattle.lister.specs.Judging.{row-room, refused, cramped, listed}
 use Rattle.lister.specs.Laws.{OneJudging, GoodListed, OnlyBadRefused, PiecesJoined, PieceFits, PieceHeld, LastSays, OneSaid}
-use Rattle.lister.specs.Laws.{GoodText, OtherText, OneListing}
+use Rattle.lister.specs.Laws.{WholeInput, GoodText, OtherText, OneListing}
 use Rattle.lister.proofs.Judging.{run-good}
 use Rattle.lister.proofs.Listed.{clash, refusals, passes}
 use Rattle.lister.proofs.Joined
+use Rattle.lister.proofs.Kept
 use Rattle.lister.proofs.Listed
 use Rattle.lister.specs.declared.judge.Judged.the-variants.{Refused, Ran as Listed}
 
@@ -58,6 +59,9 @@ pub one-said : OneSaid
 one-said = Joined.one-said
 
 -- The listing of a file.
+pub whole-input : WholeInput
+whole-input = Kept.whole-input
+
 pub good-text : GoodText
 good-text = Listed.good-text
 

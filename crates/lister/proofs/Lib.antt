@@ -2,5 +2,6 @@ pub mod Laws
 mod Judging
 mod Lengths
 mod Joined
+mod Kept
 mod Listed
 mod Built

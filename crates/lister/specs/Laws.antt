@@ -1,5 +1,6 @@
 -- What is shown of listing, each under one sentence. proofs/Laws.antt proves them all. Assumes nothing.
 use mathlib.Core.Path.{_≡_}
+use mathlib.Core.Bool.{true}
 use mathlib.Core.List.{List, _++_}
 use Prim.Native.Nat.{ℕ, suc, _-_, _≤_, _<_}
 use lib.ListN.{length, take, getD}
@@ -11,6 +12,9 @@ use Rattle.session.specs.declared.Flag.{Flag}
 use Rattle.lines.specs.Texts.{most-text, text-of}
 use Rattle.lines.specs.Lines.{header, last-line, refused-line, consistent, flagged, refused}
 use Rattle.lines.specs.Laws.{Tells}
+use Rattle.intake.specs.Inputs.{Keeps}
+use Rattle.intake.specs.declared.Input.{Input}
+use Rattle.house.specs.Limits.{most-bytes}
 use Rattle.house.specs.File.{rows-of, events-of, contents-of}
 use Rattle.house.specs.Reading.{verdict}
 use Rattle.house.specs.Refusals.{told}
@@ -18,7 +22,7 @@ use Rattle.house.specs.declared.answer.Verdict.the-variants as verdict
 use Rattle.house.specs.Laws.{GoodFile}
 use Rattle.house.specs.declared.answer.Refusal.{Refusal}
 use Rattle.lister.specs.Judging.{row-room, rows-meant, RunsFile, Judges}
-use Rattle.lister.specs.Listing.{event-room, result-room, joined, listing-of, piece-of, pieces-of, verdict-of, outcome-of, Lists}
+use Rattle.lister.specs.Listing.{event-room, result-room, joined, listing-of, piece-of, pieces-of, verdict-of, outcome-of, Kept, Lists}
 use Rattle.lister.specs.declared.Outcome.{Outcome}
 use Rattle.lister.specs.declared.Outcome.the-variants as outcome
 use Rattle.lister.specs.declared.judge.Judged.{Judged}
@@ -81,6 +85,13 @@ abbrev pub OneSaid : Type 0
 OneSaid = (a b : Outcome) (line : List ℕ) → Says a line → Says b line → a ≡ b
 
 -- THE LISTING OF A FILE
+
+-- What the program keeps of an input that it read whole, in a room of one byte more than a house file has, is kept of a file of the length
+-- that it tells.
+abbrev pub WholeInput : Type 0
+WholeInput =
+    (buffer : List ℕ) (r : Input) → length buffer ≡ suc most-bytes → Keeps buffer r → r .whole ≡ true
+    → (f : List ℕ) × Kept f (take (r .kept) buffer) × (length f ≡ r .length)
 
 -- The table that a file means, and the plausible set after the first k of its events.
 abbrev pub table-meant : List ℕ → Table
