@@ -9,7 +9,8 @@ use lib.Dec.{eqb}
 use lib.ListN.{length}
 use borrow.Author.Tests.{eq-eqb, ne-eqb, eqb-true}
 use Rattle.intake.specs.Inputs.{most-count, sum-of, counted, ended, is-whole, input-of, Keeps}
-use Rattle.intake.specs.Laws.{resumed, ReadByRead, of, failure, reads-of, total, AllCounted, FailureTold, TrueLength, WholeKept}
+use Rattle.intake.specs.Laws.{resumed, of, failure, reads-of, total}
+use Rattle.intake.specs.Laws.{ReadByRead, AllCounted, FailureTold, TrueLength, WholeKept, OneTold}
 use Rattle.intake.specs.declared.Counted.the-variants.{Over, More}
 use Rattle.intake.specs.declared.Ended.{Ended}
 use Rattle.intake.specs.declared.Ended.the-variants.{After, Failed}
@@ -72,3 +73,7 @@ whole-kept buffer r l k w =
     let all : input-of (r .kept) (length buffer) (k .how) .whole ≡ true = sym (ap (λ (x : Input). x .whole) (k .is)) ∙ w in
     ⊎-elim (λ e. inl (long ∙ e)) (λ (f, h). inr (f, omega (arith, h, long)))
     (ends (r .kept) (length buffer) (k .how) (omega (arith, l, k .counts .0)) all)
+
+pub one-told : OneTold
+one-told buffer r₁ r₂ a b e f =
+    a .is ∙ ap (λ (n : ℕ). input-of n (length buffer) (a .how)) e ∙ ap (input-of (r₂ .kept) (length buffer)) f ∙ sym (b .is)

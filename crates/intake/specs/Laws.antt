@@ -61,3 +61,8 @@ abbrev pub WholeKept : Type 0
 WholeKept =
     (buffer : List ℕ) (r : Input) → length buffer ≤ most-count → Keeps buffer r → r .whole ≡ true
     → (r .length ≡ r .kept) ⊎ ((r .kept ≡ length buffer) × (r .kept ≤ r .length))
+
+-- What came through the descriptor settles what is told: how many bytes were kept, and how the input ended.
+abbrev pub OneTold : Type 0
+OneTold =
+    (buffer : List ℕ) (r₁ r₂ : Input) (a : Keeps buffer r₁) (b : Keeps buffer r₂) → r₁ .kept ≡ r₂ .kept → a .how ≡ b .how → r₁ ≡ r₂

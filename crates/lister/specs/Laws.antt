@@ -22,7 +22,8 @@ use Rattle.house.specs.declared.answer.Verdict.the-variants as verdict
 use Rattle.house.specs.Laws.{GoodFile}
 use Rattle.house.specs.declared.answer.Refusal.{Refusal}
 use Rattle.lister.specs.Judging.{row-room, rows-meant, RunsFile, Judges}
-use Rattle.lister.specs.Listing.{event-room, result-room, joined, listing-of, piece-of, pieces-of, verdict-of, outcome-of, Kept, Lists}
+use Rattle.lister.specs.Listing.{event-room, result-room, joined, listing-of, piece-of, pieces-of}
+use Rattle.lister.specs.Listing.{verdict-of, outcome-of, Kept, Lists}
 use Rattle.lister.specs.declared.Outcome.{Outcome}
 use Rattle.lister.specs.declared.Outcome.the-variants as outcome
 use Rattle.lister.specs.declared.judge.Judged.{Judged}
