@@ -3,7 +3,6 @@
 // and `list` touch a descriptor, and of what they write no contract can speak.
 use judge::Judged;
 use lines::Text;
-ghost use mathlib.Core.Bool.{cond};
 ghost use mathlib.Core.Path.{_≡_};
 ghost use Rattle.lister.specs.Listing.{unless-broken, Comes};
 
