@@ -94,6 +94,8 @@ def good_files():
     yield "B_and_c_least", files.house(bounded(T, 1, 1), T_ROWS, [POLL, POLL, REPORT, POLL]), "consistent"
     yield "B_and_c_most", files.house(bounded(T, 32, 8), T_ROWS, [POLL] * 40 + [REPORT] * 9), "consistent"
     yield "B_and_c_most_and_a_flag", files.house(bounded(T, 32, 8), T_ROWS, [POLL, REPORT, BLANK, POLL]), "flagged 2"
+    # an honest box whose report 0 the tap missed: no bounds cover that
+    yield "report_missed_by_the_tap", files.house(bounded(BOX, 32, 8), b"", [0, 1, 129]), "flagged 2"
     yield "index_of_four_digits", files.house(T, T_ROWS, [POLL, REPORT] * 501), "consistent"
 
 
