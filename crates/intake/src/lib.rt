@@ -2,7 +2,7 @@
 // that is too long is told with its true length.
 ghost use mathlib.Core.Path.{_≡_};
 ghost use Prim.Native.Nat.{_+_, min};
-ghost use lib.ListN.{replicate, take};
+ghost use lib.ListN.{replicate};
 ghost use Rattle.intake.specs.Inputs.{counted, is-whole, input-of, Keeps};
 
 // One byte more than the longest house file, so that a file that is too long shows.
@@ -12,7 +12,7 @@ const FILE_ROOM: usize = 7681;
 const MOST_READS: usize = 1125899906842624;
 
 // How the input ended after what was kept of it: so many bytes later, or by a read that failed.
-pub enum Ended {
+enum Ended {
     After(usize),
     Failed,
 }
@@ -29,16 +29,6 @@ pub fn file_room() -> [u8; FILE_ROOM]
     ensures { λ r. ⌜ r ≡ replicate 7681 0 ⌝ }
 {
     [0; FILE_ROOM]
-}
-
-// The first n bytes, or all if there are fewer.
-pub fn front(bytes: &[u8], n: usize) -> &[u8]
-    ensures { λ r. ⌜ now r ≡ take n (now (bytes .entry)) ⌝ }
-{
-    if n <= bytes.len() {
-        return &bytes[..n];
-    }
-    bytes
 }
 
 // One read, of which nothing is kept but how it went. No bytes come at the end.
@@ -76,7 +66,7 @@ fn count(total: usize, read: Read) -> Counted
 }
 
 // Reads to the end, and keeps nothing.
-pub fn rest(fd: i32) -> Ended {
+fn rest(fd: i32) -> Ended {
     let mut total: usize = 0;
     let mut reads: usize = 0;
     while reads < MOST_READS {
@@ -91,7 +81,7 @@ pub fn rest(fd: i32) -> Ended {
 }
 
 // The sum; where it would not fit, the most that does.
-pub fn sum(a: usize, b: usize) -> usize
+fn sum(a: usize, b: usize) -> usize
     ensures { λ r. ⌜ r ≡ min (a + b) 18446744073709551615 ⌝ }
 {
     if a <= 18446744073709551615 - b {

@@ -3,7 +3,7 @@ use house::Contents;
 use house::Reading;
 use house::Refusal;
 use house::Source;
-use intake::front;
+use lent::front;
 use session::Flag;
 use table::Test;
 ghost use mathlib.Core.Path.{_≡_};

@@ -20,7 +20,7 @@ pub enum Outcome {
 
 fn say(output: i32, t: Text) -> bool {
     let bytes = t.bytes;
-    io::write_all(output, intake::front(&bytes, t.used))
+    io::write_all(output, lent::front(&bytes, t.used))
 }
 
 // The first n pieces, one after another.
@@ -76,5 +76,5 @@ pub fn list(input: i32, output: i32) -> Outcome {
     if !came.whole {
         return Outcome::Broken;
     }
-    list_file(output, intake::front(&file, came.kept), came.length)
+    list_file(output, lent::front(&file, came.kept), came.length)
 }

@@ -7,7 +7,7 @@ ghost use Rattle.writer.specs.Writing.{Writes};
 ghost use Rattle.remake.specs.Remaking.{Rebinds, Retraces};
 use house::Contents;
 use house::Reading;
-use intake::front;
+use lent::front;
 use writer::Writing;
 
 // The most bytes of rows and of events that a house file gives.

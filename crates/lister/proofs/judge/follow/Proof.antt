@@ -5,7 +5,7 @@ use Rattle.lister.proofs.judge.follow.Statement.{statement}
 use Rattle.lister.proofs.judge.follow.Tie as tie
 use Rattle.lister.proofs.judge.follow.Reads as reads
 use Rattle.lister.proofs.judge.follow.Lts as lts
-use Rattle.intake.proofs.front.Reads as front-reads
+use Rattle.lent.proofs.front.Reads as front-reads
 use Rattle.run.proofs.run.Reads as run-reads
 
 -- src/judge.rt:53:9

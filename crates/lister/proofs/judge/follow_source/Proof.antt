@@ -10,7 +10,7 @@ use Rattle.lister.proofs.judge.follow_source.Tie as tie
 use Rattle.lister.proofs.judge.follow_source.Reads as reads
 use Rattle.lister.proofs.judge.follow_source.Lts as lts
 use Rattle.lister.proofs.judge.follow.Reads as follow-reads
-use Rattle.intake.proofs.front.Reads as front-reads
+use Rattle.lent.proofs.front.Reads as front-reads
 use Rattle.standard.proofs.rows.Reads as rows-reads
 
 -- src/judge.rt:74:35

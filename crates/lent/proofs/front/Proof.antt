@@ -2,10 +2,10 @@ use mathlib.Core.Path.{sym}
 use lib.Seq.{length-take-le, take-all}
 use native.Mathlib.Omega.{arith}
 use borrow.Author.Needs.{needs}
-use Rattle.intake.proofs.front.Statement.{statement}
-use Rattle.intake.proofs.front.Tie as tie
-use Rattle.intake.proofs.front.Reads as reads
-use Rattle.intake.proofs.front.Lts as lts
+use Rattle.lent.proofs.front.Statement.{statement}
+use Rattle.lent.proofs.front.Tie as tie
+use Rattle.lent.proofs.front.Reads as reads
+use Rattle.lent.proofs.front.Lts as lts
 
 -- src/lib.rt:40:9
 slice-aggregate-result : tie.Need-slice-aggregate-result
