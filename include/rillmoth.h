@@ -12,9 +12,10 @@
  *   - memory that is written to lies over no other memory of the same call. Memory that is only read may.
  * Whatever stands in that memory, and whatever the numbers are, the function answers, and reads and writes nothing else.
  *
- * ANSWERS. rillmoth_list answers a number (enum rillmoth_outcome). Each other function answers false exactly when memory of which the
- * constants below say how long it must be is shorter: of rillmoth_open and rillmoth_feed the session's words or bytes, or the results; of
- * rillmoth_standard its rows; of all others the results. Then nothing is written. Else it answers true, and the results, of which
+ * ANSWERS. rillmoth_list answers a number (enum rillmoth_outcome), and so does rillmoth_version. Each other function answers false exactly
+ * when memory of which the constants below say how long it must be is shorter: of rillmoth_open and rillmoth_feed the session's words or
+ * bytes, or the results; of rillmoth_listing its text, or the results; of rillmoth_standard its rows; of all others the results. Then
+ * nothing is written. Else it answers true, and the results, of which
  * rillmoth_standard has none, begin with RILLMOTH_NUMBER, RILLMOTH_PLACE and RILLMOTH_SECOND: zeros, or a refusal's number and places. A
  * refusal is an ordinary answer: it judges nothing, writes the results and nothing else, and leaves a session and every buffer as they
  * were. Results beyond those that a function has keep their values.
@@ -31,6 +32,13 @@
 extern "C" {
 #endif
 
+/* VERSION: 10,000 * major + 100 * minor + patch, and as text. rillmoth_version() answers that of the library, to be compared with that of
+ * this header. */
+
+#define RILLMOTH_VERSION 200
+#define RILLMOTH_VERSION_TEXT "0.2.0"
+uint32_t rillmoth_version(void);
+
 /* LIMITS */
 
 #define RILLMOTH_MOST_STATES 64
@@ -41,6 +49,7 @@ extern "C" {
 #define RILLMOTH_MOST_FILE_EVENTS 4096 /* of a house file */
 #define RILLMOTH_MOST_FILE_BYTES 7680  /* of a house file: 15 blocks */
 #define RILLMOTH_MOST_ROW_BYTES 2048   /* of a table: 64 rows of 32 */
+#define RILLMOTH_LISTING_BYTES 393408  /* room for every listing: 4,098 lines of at most 96 bytes */
 
 /* A table's rows lie one after another, a row for each state. A row has a byte for each input, then one for each output: the next
  * state, or this byte for "not allowed here". State 0 is the start. */
@@ -85,7 +94,8 @@ extern "C" {
 #define RILLMOTH_FEED_RESULTS 3
 #define RILLMOTH_RUN_RESULTS 4
 #define RILLMOTH_READ_RESULTS 11
-#define RILLMOTH_WRITE_RESULTS 4
+#define RILLMOTH_WRITE_RESULTS 4 /* of rillmoth_rebind, rillmoth_retrace and rillmoth_mend too */
+#define RILLMOTH_LISTING_RESULTS 6
 #define RILLMOTH_IMPORT_RESULTS 4
 #define RILLMOTH_HAND_RESULTS 6
 
@@ -182,6 +192,24 @@ bool rillmoth_write(size_t source, const uint8_t *rows, size_t rows_count, size_
                     size_t losses, const uint8_t *trace, size_t trace_count, uint8_t *out, size_t out_count, uint64_t *results,
                     size_t results_count);
 
+/* Writes the house file `file` with these bounds in place of its own to the start of `out`. Every byte but those two and the check of block 0
+ * is as in `file`, whose own bounds are not looked at.
+ *   file       all its bytes
+ *   waiting, losses, out, results    as of rillmoth_write
+ * Refuses with 11, then block by block 12, 20, 21, 22, 23, then as rillmoth_write does of what is to be written: 5 and 6 are always of the
+ * bounds that are given. Then `out` is as it was, and the length is 0. */
+bool rillmoth_rebind(const uint8_t *file, size_t file_count, size_t waiting, size_t losses, uint8_t *out, size_t out_count,
+                     uint64_t *results, size_t results_count);
+
+/* Writes the house file `file` with this trace in place of its own, likewise. Refuses as rillmoth_read does, then with 9, 7, 10 of what is to
+ * be written. */
+bool rillmoth_retrace(const uint8_t *file, size_t file_count, const uint8_t *trace, size_t trace_count, uint8_t *out, size_t out_count,
+                      uint64_t *results, size_t results_count);
+
+/* Writes the house file `file` with the check of block 0 put right, likewise: for a setup that was changed by hand. Nothing else changes, and
+ * nothing else is looked at. Refuses with 11, 10. */
+bool rillmoth_mend(const uint8_t *file, size_t file_count, uint8_t *out, size_t out_count, uint64_t *results, size_t results_count);
+
 /* Imports a capture of the tap (classic pcap, link type 147): one event a record, to the start of `events`. Its octets are not held to a
  * table; feeding or running them is.
  *   capture    all its bytes
@@ -203,6 +231,18 @@ bool rillmoth_import(const uint8_t *capture, size_t capture_count, uint8_t *even
 #define RILLMOTH_HAND_NEXT 5 /* the place to go on from */
 bool rillmoth_hand(const uint8_t *capture, size_t capture_count, size_t place, uint64_t *results, size_t results_count);
 
+/* Lists a house file: all the text of its listing (README.md, "Reading a listing"), to the start of `text`.
+ *   file       its bytes; of a file that is longer, the first RILLMOTH_MOST_FILE_BYTES + 1 are enough
+ *   length     how many bytes it has, which is told if it is too long
+ *   text       at least RILLMOTH_LISTING_BYTES bytes; those after the text keep their values
+ *   results    at least RILLMOTH_LISTING_RESULTS words: number, place, second place, and those named below
+ * A refused file is listed too: its text is one line, and its number and places are in the results. */
+#define RILLMOTH_LISTING_TEXT 3 /* how many bytes the text has */
+#define RILLMOTH_LISTING_EVENTS 4 /* how many events the file has; 0 if it is refused */
+#define RILLMOTH_LISTING_FLAG 5 /* 0: not flagged, or refused; else the index of the flagged event plus 1 */
+bool rillmoth_listing(const uint8_t *file, size_t file_count, size_t length, uint8_t *text, size_t text_count, uint64_t *results,
+                      size_t results_count);
+
 /* Lists the house file that the descriptor `input` gives to its end, as text to the descriptor `output` (README.md, "Reading a
  * listing"). The only function that calls the system: it reads and writes. It answers one of enum rillmoth_outcome.
  *
@@ -210,7 +250,8 @@ bool rillmoth_hand(const uint8_t *capture, size_t capture_count, size_t place, u
  * handler without SA_RESTART ran before a byte moved) and EAGAIN (a descriptor with O_NONBLOCK is not ready) too. After a failed read the
  * answer is RILLMOTH_BROKEN and nothing was written, unless the input then ends without another byte: then all of it was read, and it is
  * listed. After a failed write the answer is RILLMOTH_BROKEN, and the text may be there in part. What was read is gone in either case. So
- * hand over descriptors that wait, with handlers that restart. A write to a pipe that nobody reads raises SIGPIPE, as any write does. */
+ * hand over descriptors that wait, with handlers that restart. A write to a pipe that nobody reads raises SIGPIPE, as any write does. (rillmoth_listing
+ * calls nothing.) */
 enum rillmoth_outcome {
     RILLMOTH_CONSISTENT = 0,
     RILLMOTH_FLAGGED = 1,

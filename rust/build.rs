@@ -9,7 +9,7 @@ fn main() {
     println!("cargo:rerun-if-env-changed=RILLMOTH_LIBRARY");
     let folder = match env::var_os("RILLMOTH_LIBRARY") {
         Some(folder) => PathBuf::from(folder),
-        None => PathBuf::from(env::var_os("CARGO_MANIFEST_DIR").unwrap_or_default()).join("../target/library"),
+        None => PathBuf::from(env::var_os("CARGO_MANIFEST_DIR").unwrap_or_default()).join("../built/library"),
     };
     let library = folder.join(NAME);
     println!("cargo:rerun-if-changed={}", library.display());

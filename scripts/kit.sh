@@ -1,7 +1,12 @@
-# For shell commands to source: builds a program of this repository, and runs it as the Rattle kit does. Programs are for x86-64; on
-# another processor they run under the kit's emulator.
+# For shell commands to source: finding the kit, telling whether a file was made of what stands here, and running a program for x86-64.
+
+unset CDPATH # else `cd` may go elsewhere, and say so
+set +o noclobber
 
 kit_root=$(cd "$(dirname "${BASH_SOURCE[0]}")/.." && pwd -P)
+
+# What is built stands here, and not in target/, which `rt ci` removes.
+kit_built=$kit_root/built
 
 # Sets kit_tools to the kit's tools for this machine; fails with a word of advice where there is no kit.
 kit_find() {
@@ -21,46 +26,22 @@ kit_find() {
 # Prints a sum over these files and folders of the repository. Times would not do to tell what has changed: those of a fresh copy only say
 # when it was copied.
 kit_sum() { # PATH...
-  (cd "$kit_root" && find "$@" -type f -print0 | LC_ALL=C sort -z | xargs -0 sha256sum | sha256sum)
+  (cd "$kit_root" && set -o pipefail && find "$@" -type f -print0 | LC_ALL=C sort -z | xargs -0 sha256sum | sha256sum)
 }
 
-# Notes that FILE was made of what has this sum. Its own sum stands beside it, since others may make the file anew.
+# Notes that FILE was made of what has this sum. Its own sum stands beside it, so that a file that was cut or exchanged since shows.
 kit_note() { # FILE SUM
-  { echo "$2" && sha256sum <"$1"; } >"$1.sum"
+  local own
+  own=$(sha256sum <"$1") && printf '%s\n%s\n' "$2" "$own" >"$1.sum.new" && mv "$1.sum.new" "$1.sum"
 }
 
 # Whether FILE is there, and was made of what has this sum.
 kit_made_of() { # FILE SUM
-  [ -e "$1" ] && { echo "$2" && sha256sum <"$1"; } | cmp -s - "$1.sum"
+  local own
+  [ -e "$1" ] && [ -e "$1.sum" ] && own=$(sha256sum <"$1") && [ "$(cat "$1.sum")" = "$2"$'\n'"$own" ]
 }
 
-# Proves and compiles the program NAME, unless it was made of what stands here.
-kit_build() { # NAME
-  local program=$kit_root/target/bin/$1 log sum
-  sum=$(kit_sum crates crates.txt) || return 1
-  if kit_made_of "$program" "$sum"; then
-    return 0
-  fi
-  echo "Proving and compiling the program $1: this is done once, and takes some minutes." >&2
-  log=$(mktemp)
-  if ! (cd "$kit_root" && rt check "$1") >"$log" 2>&1; then
-    tail -n 20 "$log" >&2
-    rm -f "$log"
-    echo "The program $1 could not be built." >&2
-    return 1
-  fi
-  rm -f "$log"
-  kit_note "$program" "$sum"
-}
-
-# Runs the program NAME with these words.
-kit_run() { # NAME [WORD...]
-  local program=$kit_root/target/bin/$1
-  shift
-  kit_run_file "$program" "$@"
-}
-
-# Runs the program that this file is, likewise.
+# Runs the program that this file is, for x86-64; on another processor under the kit's emulator.
 kit_run_file() { # FILE [WORD...]
   local emulator=$kit_tools/bin/qemu-x86_64
   if [ -x "$emulator" ]; then
@@ -70,21 +51,21 @@ kit_run_file() { # FILE [WORD...]
   fi
 }
 
-# Runs the program NAME with these words, and passes on the file that it writes only where it is whole: it has written something and said
-# nothing. Ends with 0 then, and else with 2; what the program said is on standard error.
-kit_deliver() { # NAME [WORD...]
-  local name=$1 room status=2
-  room=$(mktemp -d) || return 2
-  kit_run "$@" >"$room/out" 2>"$room/said"
-  if [ -s "$room/said" ]; then
-    cat "$room/said" >&2
-  elif ! [ -s "$room/out" ]; then
-    echo "$name: could not be run to its end" >&2
-  elif cat "$room/out" 2>/dev/null; then
-    status=0
-  else
-    echo "$name: the file could not be written" >&2
-  fi
-  rm -rf "$room"
+# Whether a folder has room for the temporary files of four checks, 217 MB each at most, and lets programs be run.
+kit_serves() { # FOLDER
+  local try status
+  [ -d "$1" ] && [ "$(df --output=avail -k "$1" 2>/dev/null | tail -n 1)" -ge 2097152 ] && try=$(mktemp "$1/try.XXXXXX" 2>/dev/null) || return 1
+  echo '#!/bin/sh' >"$try" && chmod +x "$try" && "$try"
+  status=$?
+  rm -f "$try"
   return "$status"
+}
+
+# How rt goes fastest, unless somebody has said otherwise.
+kit_prepare() {
+  # At each check the prover copies what it loads, some thousand small files. In memory a short check takes a quarter less.
+  if [ -z "${TMPDIR:-}" ] && kit_serves /dev/shm; then export TMPDIR=/dev/shm; fi
+  # rt starts so many at a time and waits for them all before it starts the next: with twice as many as there are processors, none of these
+  # waits long for the slowest.
+  export RT_JOBS=${RT_JOBS:-$((2 * $(nproc)))}
 }

@@ -5,10 +5,13 @@
 # for other processors too. So there the kit is given a toolchain in which `clang` keeps the module before it does its work, and the
 # module that was kept is compiled once more, for this machine, by the same compiler at the same level.
 #
-# It is a way to measure. What is proved and delivered is what `rt` writes.
+# What is proved and delivered is what `rt` writes for x86-64. Elsewhere the library, and the command `rillmoth`, have the same proved code
+# compiled for that machine (docs/TRUST.md).
 
-native_root=$(cd "$(dirname "${BASH_SOURCE[0]}")/.." && pwd -P)
-. "$native_root/scripts/kit.sh"
+. "$(dirname "${BASH_SOURCE[0]}")/kit.sh"
+
+# Each exports the functions that are marked in it, and none of those below it, so the library is made of all of them.
+native_doors="version sessiondoors filedoors capturedoors writerdoors standarddoors"
 
 # Makes FARM a kit of symbolic links to the kit KIT, with a `clang` that copies the file after the words `-x ir` to KEPT.
 native_farm() { # KIT FARM KEPT
@@ -33,42 +36,56 @@ native_farm() { # KIT FARM KEPT
   chmod +x "$farm/on/$machine/toolchain/bin/clang"
 }
 
-# Prints what the crate NAME is made of: the code, definitions and proofs of it and of all that it stands on here, and crates.txt.
-native_sources() { # NAME
-  local crate
-  echo crates.txt
-  for crate in $(awk -v name="$1" '
+# Prints the crates of this repository that these stand on, and these themselves, each after those below it.
+native_below() { # NAME...
+  awk -v names="$*" '
     function reach(crate,    below, count, i) {
-      if (crate in reached) return
+      if (!(crate in on) || crate in reached) return
       reached[crate]
-      print crate
       count = split(on[crate], below, " ")
       for (i = 1; i <= count; i++) reach(below[i])
+      print crate
     }
     /^[a-z]+:/ { crate = $1; sub(/:$/, "", crate); $1 = ""; on[crate] = $0 }
-    END { reach(name) }' "$native_root/crates.txt"); do
-    # The kit's own crates are not here.
-    [ ! -d "$native_root/crates/$crate" ] || printf '%s\n' crates/"$crate"/{src,specs,proofs}
+    END { count = split(names, named, " "); for (j = 1; j <= count; j++) reach(named[j]) }' "$kit_root/crates.txt"
+}
+
+# Prints what these crates are made of: the code, definitions and proofs of them and of all that they stand on here, and crates.txt.
+native_sources() { # NAME...
+  local crate part
+  echo crates.txt
+  for crate in $(native_below "$@"); do
+    for part in src specs proofs; do
+      [ ! -d "$kit_root/crates/$crate/$part" ] || echo "crates/$crate/$part"
+    done
   done
 }
 
 # Prints a sum over all that.
-native_sum() { # NAME
+native_sum() { # NAME...
   local sources
-  mapfile -t sources < <(native_sources "$1")
+  mapfile -t sources < <(native_sources "$@")
   kit_sum "${sources[@]}"
+}
+
+# Proves and compiles the crate NAME as `rt staticlib` does, with the kit at HOME if one is named.
+native_staticlib() { # NAME [HOME]
+  local log=$kit_built/native/$1.log
+  mkdir -p "$kit_built/native" || return 1
+  (
+    cd "$kit_root" || exit 1
+    [ $# -lt 2 ] || export RATTLE_HOME=$2
+    rt staticlib "$1"
+  ) >"$log" 2>&1 || { tail -n 20 "$log" >&2; return 1; }
 }
 
 # Prints the path of the archive with the functions of the crate NAME that is delivered, for x86-64.
 # It is made anew only where something that it is made of has changed.
 delivered_library() { # NAME
-  local name=$1 library=$native_root/target/staticlib/lib$1.a log=$native_root/target/native/$1.log sum
+  local name=$1 library=$kit_built/native/lib$1.a sum
   sum=$(native_sum "$name") || return 1
   if ! kit_made_of "$library" "$sum"; then
-    echo "Proving and compiling the crate $name: this is done once, and takes some minutes." >&2
-    mkdir -p "$native_root/target/native"
-    (cd "$native_root" && rt staticlib "$name") >"$log" 2>&1 || { tail -n 20 "$log" >&2; return 1; }
-    kit_note "$library" "$sum"
+    native_staticlib "$name" && cp "$kit_root/target/staticlib/lib$name.a" "$library" && kit_note "$library" "$sum" || return 1
   fi
   echo "$library"
 }
@@ -76,28 +93,26 @@ delivered_library() { # NAME
 # Prints the path of the module that the kit hands to its compiler for the crate NAME.
 # It is made anew only where something that it is made of has changed.
 native_module() { # NAME
-  local name=$1 built=$native_root/target/native kit log module sum
-  module=$built/$name.bc log=$built/$name.log
+  local name=$1 built=$kit_built/native kit module sum
+  module=$built/$name.bc
   sum=$(native_sum "$name") || return 1
   if kit_made_of "$module" "$sum"; then
     echo "$module"
     return 0
   fi
-  echo "Proving and compiling the crate $name: this is done once, and takes some minutes." >&2
   kit_find || return 1
   kit=$(cd "$kit_tools/../../.." && pwd -P)
   mkdir -p "$built"
   rm -f "$module"
   # The clang of the kit is several programs by its name; the links keep those names.
-  native_farm "$kit" "$built/kit" "$module" || return 1
-  (cd "$native_root" && RATTLE_HOME=$built/kit rt staticlib "$name") >"$log" 2>&1 || { tail -n 20 "$log" >&2; return 1; }
+  native_farm "$kit" "$built/kit" "$module" && native_staticlib "$name" "$built/kit" || return 1
   if [ ! -s "$module" ]; then
     echo "The kit compiled no module for the crate $name." >&2
     return 1
   fi
-  kit_note "$module" "$sum"
+  kit_note "$module" "$sum" || return 1
   # The same run wrote the archive that is delivered; it need not be proved once more.
-  kit_note "$native_root/target/staticlib/lib$name.a" "$sum"
+  cp "$kit_root/target/staticlib/lib$name.a" "$built/lib$name.a" && kit_note "$built/lib$name.a" "$sum" || return 1
   echo "$module"
 }
 
@@ -111,7 +126,7 @@ native_compile() { # MODULE OBJECT
 # Prints the path of an archive or object with the functions of the crate NAME, for this machine, to link with the C library.
 # It is made anew only where something that it is made of has changed.
 native_library() { # NAME
-  local name=$1 module library=$native_root/target/native/$1.o sum
+  local name=$1 module library=$kit_built/native/$1.o sum
   kit_find || return 1
   if [ "$(uname -m)" = x86_64 ]; then
     delivered_library "$name"

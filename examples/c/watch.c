@@ -5,7 +5,7 @@
  * RULES is a house file with the box's table and bounds; its own events are not used. EVENTS are words, `i5` for poll 5 and `o2` for the
  * report of poll 2. An event that the table has not is refused and leaves the session as it was.
  *
- *   cc -std=c99 -Iinclude examples/c/watch.c target/library/librillmoth.a -o watch
+ *   cc -std=c99 -Iinclude examples/c/watch.c built/library/librillmoth.a -o watch
  *
  * Exit status: 0 not flagged; 1 flagged; 2 something was refused, or could not be read. */
 #include <inttypes.h>

@@ -1,7 +1,8 @@
 //! The functions of librillmoth.a, as include/rillmoth.h has them, over slices. All that is not safe is here.
 //!
 //! A slice of Rust is what the library asks for: its elements may be read, and no slice that may be written to lies over another. Each
-//! function that answers a bool answers whether the memory for a session, for the results or for the standard box's rows was long enough.
+//! function that answers a bool answers whether the memory for a session, for the results, for a listing or for the standard box's rows was
+//! long enough.
 #![allow(unsafe_code)]
 
 use crate::{Bounds, Table};
@@ -90,7 +91,45 @@ mod foreign {
             results: *mut u64,
             results_count: usize,
         ) -> bool;
+        pub fn rillmoth_rebind(
+            file: *const u8,
+            file_count: usize,
+            waiting: usize,
+            losses: usize,
+            out: *mut u8,
+            out_count: usize,
+            results: *mut u64,
+            results_count: usize,
+        ) -> bool;
+        pub fn rillmoth_retrace(
+            file: *const u8,
+            file_count: usize,
+            trace: *const u8,
+            trace_count: usize,
+            out: *mut u8,
+            out_count: usize,
+            results: *mut u64,
+            results_count: usize,
+        ) -> bool;
+        pub fn rillmoth_mend(
+            file: *const u8,
+            file_count: usize,
+            out: *mut u8,
+            out_count: usize,
+            results: *mut u64,
+            results_count: usize,
+        ) -> bool;
+        pub fn rillmoth_listing(
+            file: *const u8,
+            file_count: usize,
+            length: usize,
+            out: *mut u8,
+            out_count: usize,
+            results: *mut u64,
+            results_count: usize,
+        ) -> bool;
         pub fn rillmoth_list(input: i32, output: i32) -> u8;
+        pub fn rillmoth_version() -> u32;
     }
 }
 
@@ -208,6 +247,67 @@ pub fn import(capture: &[u8], events: &mut [u8], results: &mut [u64]) -> bool {
 
 pub fn hand(capture: &[u8], place: usize, results: &mut [u64]) -> bool {
     unsafe { foreign::rillmoth_hand(capture.as_ptr(), capture.len(), place, results.as_mut_ptr(), results.len()) }
+}
+
+pub fn rebind(file: &[u8], bounds: Bounds, out: &mut [u8], results: &mut [u64]) -> bool {
+    unsafe {
+        foreign::rillmoth_rebind(
+            file.as_ptr(),
+            file.len(),
+            bounds.waiting,
+            bounds.losses,
+            out.as_mut_ptr(),
+            out.len(),
+            results.as_mut_ptr(),
+            results.len(),
+        )
+    }
+}
+
+pub fn retrace(file: &[u8], trace: &[u8], out: &mut [u8], results: &mut [u64]) -> bool {
+    unsafe {
+        foreign::rillmoth_retrace(
+            file.as_ptr(),
+            file.len(),
+            trace.as_ptr(),
+            trace.len(),
+            out.as_mut_ptr(),
+            out.len(),
+            results.as_mut_ptr(),
+            results.len(),
+        )
+    }
+}
+
+pub fn mend(file: &[u8], out: &mut [u8], results: &mut [u64]) -> bool {
+    unsafe {
+        foreign::rillmoth_mend(
+            file.as_ptr(),
+            file.len(),
+            out.as_mut_ptr(),
+            out.len(),
+            results.as_mut_ptr(),
+            results.len(),
+        )
+    }
+}
+
+pub fn listing(file: &[u8], length: usize, out: &mut [u8], results: &mut [u64]) -> bool {
+    unsafe {
+        foreign::rillmoth_listing(
+            file.as_ptr(),
+            file.len(),
+            length,
+            out.as_mut_ptr(),
+            out.len(),
+            results.as_mut_ptr(),
+            results.len(),
+        )
+    }
+}
+
+pub fn version() -> u32 {
+    unsafe { foreign::rillmoth_version() }
 }
 
 pub fn list(input: i32, output: i32) -> u8 {

@@ -59,7 +59,36 @@ pub fn write(source: Source, table: &Table, bounds: Bounds, trace: &[u8], out: &
         Source::Standard => 1,
     };
     doors::fits(doors::write(source, table, bounds, trace, out, &mut results));
-    let [number, place, second, length] = results;
+    written(results)
+}
+
+/// Writes the house file `file` with these bounds in place of its own to the start of `out`, of which [`MOST_FILE_BYTES`] are always
+/// enough, and tells how long it is. Its own bounds are not looked at. Refuses with 11; then block by block 12, 20, 21, 22, 23; then as
+/// [`write()`] does; then `out` is as it was.
+pub fn rebind(file: &[u8], bounds: Bounds, out: &mut [u8]) -> Result<usize, Refusal> {
+    let mut results = [0; 4];
+    doors::fits(doors::rebind(file, bounds, out, &mut results));
+    written(results)
+}
+
+/// Writes the house file `file` with this trace in place of its own, likewise. Refuses as [`read()`] does; then with 9, 7, 10 of what is to
+/// be written.
+pub fn retrace(file: &[u8], trace: &[u8], out: &mut [u8]) -> Result<usize, Refusal> {
+    let mut results = [0; 4];
+    doors::fits(doors::retrace(file, trace, out, &mut results));
+    written(results)
+}
+
+/// Writes the house file `file` with the check of block 0 put right, likewise: for a setup that was changed by hand. Nothing else is looked
+/// at, and nothing else changes. Refuses with 11, 10.
+pub fn mend(file: &[u8], out: &mut [u8]) -> Result<usize, Refusal> {
+    let mut results = [0; 4];
+    doors::fits(doors::mend(file, out, &mut results));
+    written(results)
+}
+
+/// How long the file is that was written, or why none was.
+fn written([number, place, second, length]: [u64; 4]) -> Result<usize, Refusal> {
     Refusal::told(number, place, second)?;
     Ok(length as usize)
 }

@@ -1,8 +1,8 @@
 //! The proved monitor for sounder boxes, called from Rust.
 //!
 //! It judges one box from what the tap saw. A [`Session`] is opened with the box's rules (a [`Table`]) and [`Bounds`], and fed event
-//! by event; [`run`] does the same for a whole trace at once. [`House`] reads and writes house files, [`import`] and [`Capture`] read
-//! captures of the tap.
+//! by event; [`run`] does the same for a whole trace at once. [`House`] reads and writes house files, [`listing`] lists one, [`rebind`] and
+//! [`retrace`] make one from another; [`import`] and [`Capture`] read captures of the tap.
 //!
 //! ```
 //! use rillmoth::{Bounds, Refusal, Session, Table};
@@ -36,10 +36,15 @@ mod session;
 mod table;
 
 pub use capture::{import, Capture, MOST_EVENTS};
-pub use house::{read, write, Contents, House, Source, MOST_FILE_BYTES, MOST_FILE_EVENTS};
+pub use house::{mend, read, rebind, retrace, write, Contents, House, Source, MOST_FILE_BYTES, MOST_FILE_EVENTS};
 pub use line::{lines, Line, LINE_BYTES};
-pub use listing::{list, Outcome};
+pub use listing::{list, listing, Listing, Outcome, MOST_LISTING_BYTES};
 pub use refusal::Refusal;
 pub use run::run;
 pub use session::{Session, SESSION_BYTES, SESSION_WORDS, SET_WORDS};
-pub use table::{input, output, standard_rows, Bounds, Table, MOST_ROW_BYTES, NOT_ALLOWED};
+pub use table::{input, output, standard_rows, symbol, Bounds, Table, MOST_ROW_BYTES, NOT_ALLOWED};
+
+/// The version of the library that is linked: 10,000 × major + 100 × minor + patch.
+pub fn version() -> u32 {
+    doors::version()
+}

@@ -40,6 +40,15 @@ pub fn output(a: u8) -> u8 {
     a | 128
 }
 
+/// An event as a listing names it: `i5` is input 5, `o2` output 2.
+pub fn symbol(event: u8) -> String {
+    if event < output(0) {
+        format!("i{event}")
+    } else {
+        format!("o{}", event - output(0))
+    }
+}
+
 /// The rows of the standard box, which has 64 states, 16 inputs and 16 outputs.
 pub fn standard_rows() -> [u8; MOST_ROW_BYTES] {
     let mut rows = [0; MOST_ROW_BYTES];

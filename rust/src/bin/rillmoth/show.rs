@@ -1,0 +1,77 @@
+//! `rillmoth show`: the setup and the rules of a house file, in words.
+
+use std::ffi::OsStr;
+use std::fmt::Write;
+
+use rillmoth::{House, Source, NOT_ALLOWED};
+
+use crate::input;
+use crate::output;
+use crate::refusals::Of;
+use crate::status::{Status, FAILED, REFUSED};
+use crate::tell;
+use crate::words::Words;
+
+pub fn show(words: &Words, status: &mut Status) -> Result<(), String> {
+    let name = match &words.operands[..] {
+        [] => OsStr::new("-"),
+        [name] => name,
+        _ => return Err(String::from("it shows one file")),
+    };
+    let called = tell::called(name, "standard input");
+    let input = match input::house(name) {
+        Ok(input) => input,
+        Err(error) => {
+            tell::failed(&called, "read", &error);
+            status.add(FAILED);
+            return Ok(());
+        }
+    };
+    match House::read(&input.bytes) {
+        Ok(house) => {
+            if let Err(error) = output::print(in_words(&house).as_bytes()) {
+                tell::unprinted(&error);
+                status.add(FAILED);
+            }
+        }
+        Err(refusal) => {
+            tell::refused(&called, &input.told(refusal), Of::File);
+            status.add(REFUSED);
+        }
+    }
+    Ok(())
+}
+
+fn in_words(house: &House) -> String {
+    let House { states, inputs, outputs, bounds, source, rows, events } = house;
+    let source = match source {
+        Source::Rows => "0, the rows below",
+        Source::Standard => "1, the standard box, whose rows are below",
+    };
+    let mut text = format!(
+        "states   {states}\ninputs   {inputs}\noutputs  {outputs}\nB        {} may wait\nc        {}, so at most {} may be lost in a row\n\
+         source   {source}\nevents   {}\n\n",
+        bounds.waiting,
+        bounds.losses,
+        bounds.losses - 1,
+        events.len()
+    );
+    let columns = (0..*inputs).map(|a| format!("i{a}")).chain((0..*outputs).map(|a| format!("o{a}")));
+    text += "state";
+    for column in columns {
+        let _ = write!(text, " {column:>3}");
+    }
+    text.push('\n');
+    for (state, row) in rows.chunks(inputs + outputs).enumerate() {
+        let _ = write!(text, "{state:>5}");
+        for entry in row {
+            if *entry == NOT_ALLOWED {
+                text += "   -";
+            } else {
+                let _ = write!(text, " {entry:>3}");
+            }
+        }
+        text.push('\n');
+    }
+    text
+}
