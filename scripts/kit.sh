@@ -41,6 +41,14 @@ kit_made_of() { # FILE SUM
   [ -e "$1" ] && [ -e "$1.sum" ] && own=$(sha256sum <"$1") && [ "$(cat "$1.sum")" = "$2"$'\n'"$own" ]
 }
 
+# Proves and compiles the Rattle program NAME, and prints its path. One that is not there is made anew, whatever rt has noted of it.
+kit_program() { # NAME
+  local program=$kit_root/target/bin/$1 log=$kit_root/target/program.log
+  [ -e "$program" ] || rm -f "$kit_root/target/stamp/$1"
+  mkdir -p "$kit_root/target" && (cd "$kit_root" && rt check "$1") >"$log" 2>&1 || { tail -n 20 "$log" >&2; return 1; }
+  echo "$program"
+}
+
 # Runs the program that this file is, for x86-64; on another processor under the kit's emulator.
 kit_run_file() { # FILE [WORD...]
   local emulator=$kit_tools/bin/qemu-x86_64

@@ -1,7 +1,7 @@
 //! The samples of this repository through the door: what is read, fed, run, written and listed of them.
 
 use rillmoth::{Bounds, Capture, House, Line, Outcome, Refusal, Session, Table};
-use rillmoth::{LINE_BYTES, NOT_ALLOWED, SESSION_BYTES, SESSION_WORDS};
+use rillmoth::{LINE_BYTES, MOST_FILE_BYTES, MOST_LISTING_BYTES, NOT_ALLOWED, SESSION_BYTES, SESSION_WORDS};
 use std::fs::{self, File};
 use std::io::{self, Read, Seek};
 use std::path::PathBuf;
@@ -57,6 +57,64 @@ fn the_listing_is_the_stored_one() -> io::Result<()> {
         assert_eq!(listed, sample(&format!("{name}.listing")));
     }
     Ok(())
+}
+
+#[test]
+fn the_listing_in_memory_is_the_stored_one_too() {
+    let mut room = Box::new([7; MOST_LISTING_BYTES]);
+    for name in GOOD {
+        let file = sample(&format!("{name}.house"));
+        let house = House::read(&file).expect("a good file");
+        let listing = rillmoth::listing(&file, file.len(), &mut room);
+        let mut out = vec![0; LINE_BYTES * house.events.len()];
+        assert_eq!(listing.text, sample(&format!("{name}.listing")));
+        assert_eq!(listing.events, house.events.len() as u64);
+        assert_eq!(listing.verdict, rillmoth::run(&house.table(), house.bounds, &house.events, &mut out));
+    }
+    let file = sample("damaged.house");
+    let listing = rillmoth::listing(&file, file.len(), &mut room);
+    assert_eq!((listing.text, listing.verdict), (&b"refused 12 1\n"[..], Err(Refusal::BadCheck { block: 1 })));
+    // Of a file that is too long the start is enough, if its length is told.
+    let listing = rillmoth::listing(&[0; MOST_FILE_BYTES + 1], 5_000_000, &mut room);
+    assert_eq!((listing.text, listing.events), (&b"refused 11 5000000\n"[..], 0));
+}
+
+#[test]
+fn a_file_has_other_bounds_another_trace_or_its_check() {
+    let file = sample("lost.house");
+    let house = House::read(&file).expect("a good file");
+    let mut out = [7; MOST_FILE_BYTES];
+    let strict = House { bounds: Bounds { waiting: 1, losses: 1 }, ..house.clone() };
+    assert_eq!(rillmoth::rebind(&file, strict.bounds, &mut out), Ok(file.len()));
+    assert_eq!(strict.write().as_deref(), Ok(&out[..file.len()]));
+    assert!(out[file.len()..].iter().all(|byte| *byte == 7));
+    let bounds = Bounds { waiting: 33, losses: 9 };
+    assert_eq!(rillmoth::rebind(&file, bounds, &mut out), Err(Refusal::BadWaiting { waiting: 33 }));
+    assert_eq!(rillmoth::rebind(&[], bounds, &mut out), Err(Refusal::BadLength { length: 0 }));
+
+    let silent = House { events: Vec::new(), ..house.clone() };
+    let short = silent.write().expect("a file");
+    assert_eq!(rillmoth::retrace(&file, &[], &mut out), Ok(short.len()));
+    assert_eq!(out[..short.len()], short);
+    assert_eq!(rillmoth::retrace(&file, &[0, 130], &mut out), Err(Refusal::BadEvent { index: 1 }));
+
+    let mut edited = file.clone();
+    edited[9] = 77;
+    assert_eq!(rillmoth::rebind(&edited, house.bounds, &mut out), Err(Refusal::BadCheck { block: 0 }));
+    let mut mended = vec![0; edited.len()];
+    assert_eq!(rillmoth::mend(&edited, &mut mended), Ok(edited.len()));
+    assert_eq!(House::read(&mended), Err(Refusal::BadWaiting { waiting: 77 }));
+    assert_eq!(rillmoth::rebind(&mended, house.bounds, &mut out), Ok(file.len()));
+    assert_eq!(out[..file.len()], file);
+    assert_eq!(rillmoth::mend(&edited, &mut mended[1..]), Err(Refusal::ShortBuffer { needed: edited.len() as u64 }));
+    assert_eq!(rillmoth::mend(&edited[1..], &mut mended), Err(Refusal::BadLength { length: edited.len() as u64 - 1 }));
+}
+
+#[test]
+fn the_library_has_the_version_of_the_package() {
+    let parts: Vec<u32> = env!("CARGO_PKG_VERSION").split('.').filter_map(|part| part.parse().ok()).collect();
+    assert_eq!(parts.len(), 3);
+    assert_eq!(rillmoth::version(), 10_000 * parts[0] + 100 * parts[1] + parts[2]);
 }
 
 #[test]
@@ -166,4 +224,7 @@ fn nothing_is_a_slice_too() {
     assert_eq!(rillmoth::run(&table, bounds, &[], &mut []), Err(Refusal::BadStates { count: 0 }));
     assert_eq!(rillmoth::read(&[], &mut [], &mut []), Err(Refusal::BadLength { length: 0 }));
     assert_eq!(rillmoth::import(&[], &mut []), Err(Refusal::BadHeader));
+    assert_eq!(rillmoth::rebind(&[], bounds, &mut []), Err(Refusal::BadLength { length: 0 }));
+    assert_eq!(rillmoth::retrace(&[], &[], &mut []), Err(Refusal::BadLength { length: 0 }));
+    assert_eq!(rillmoth::mend(&[], &mut []), Err(Refusal::BadLength { length: 0 }));
 }
