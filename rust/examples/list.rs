@@ -1,4 +1,4 @@
-//! Lists a house file, as `./list` does: reads it, runs over its events, and prints a line for each.
+//! Lists a house file, as `rillmoth list` does: reads it, runs over its events, and prints a line for each.
 //!
 //!     cargo run --example list -- FILE
 //!
