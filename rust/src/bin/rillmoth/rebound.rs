@@ -83,7 +83,7 @@ fn show(called: &str, file: &[u8]) {
         };
         tell::say(&format!(
             "{called}: the check of block 0 was taken as unknown, and made anew. Is this what was meant?\n  states {states}, inputs \
-             {inputs}, outputs {outputs}, {rules}, {} events",
+             {inputs}, outputs {outputs}, {rules}, events {}",
             events.len()
         ));
     }
