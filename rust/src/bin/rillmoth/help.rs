@@ -70,9 +70,7 @@ pub const HELP: Page = Page {
     name: "help",
     brief: "says what a command does, or what a refusal means",
     usage: &["help [COMMAND | NUMBER | man]"],
-    text: &[
-        "help 12 says what refusal 12 means and what to do. help man is the manual page, for man -l.",
-    ],
+    text: &["help 12 says what refusal 12 means and what to do. help man is the manual page, for man -l."],
 };
 
 const PAGES: [&Page; 5] = [&LIST, &REBOUND, &IMPORT, &SHOW, &HELP];
@@ -92,7 +90,7 @@ const EVERYWHERE: [&str; 3] = [
 const STATUS: [(&str, &str); 5] = [
     ("1", "some box is flagged"),
     ("2", "something was refused"),
-    ("4", "something could not be read, written or built; a pipe whose reader has gone ends so too, without a word"),
+    ("4", "something could not be read, written or built, or the reader of a pipe has gone"),
     ("8", "the words are not those of the command"),
     ("0", "none of these"),
 ];
@@ -103,7 +101,7 @@ const WIDTH: usize = 100;
 /// The page of a command.
 pub fn of(name: &str) -> Option<String> {
     let page = PAGES.iter().find(|page| page.name == name)?;
-    let mut text = format!("rillmoth {}: {}.\n\n", page.name, page.brief);
+    let mut text = filled(&format!("rillmoth {}: {}.", page.name, page.brief), "") + "\n";
     for line in page.usage {
         let _ = writeln!(text, "    rillmoth {line}");
     }
@@ -153,7 +151,10 @@ pub fn overview() -> String {
 
 /// The same as a manual page.
 fn manual() -> String {
-    let mut text = format!(".TH RILLMOTH 1 \"\" \"rillmoth {}\"\n.SH NAME\nrillmoth \\- judges sounder boxes\n.SH SYNOPSIS\n.nf\n", env!("CARGO_PKG_VERSION"));
+    let mut text = format!(
+        ".TH RILLMOTH 1 \"\" \"rillmoth {}\"\n.SH NAME\nrillmoth \\- judges sounder boxes\n.SH SYNOPSIS\n.nf\n",
+        env!("CARGO_PKG_VERSION")
+    );
     for line in PAGES.iter().flat_map(|page| page.usage) {
         let _ = writeln!(text, "rillmoth {}", roff(line));
     }

@@ -25,9 +25,14 @@ struct Rooms {
 
 impl Rooms {
     fn new(captures: bool) -> io::Result<Rooms> {
-        let text = input::room(MOST_LISTING_BYTES)?.into_boxed_slice().try_into();
+        let text: Result<Box<[u8; MOST_LISTING_BYTES]>, _> =
+            input::room(MOST_LISTING_BYTES)?.into_boxed_slice().try_into();
         let (events, file) = if captures { (MOST_EVENTS, MOST_FILE_BYTES) } else { (0, 0) };
-        Ok(Rooms { text: text.map_err(|_| ErrorKind::OutOfMemory)?, events: input::room(events)?, file: input::room(file)? })
+        Ok(Rooms {
+            text: text.map_err(|_| ErrorKind::OutOfMemory)?,
+            events: input::room(events)?,
+            file: input::room(file)?,
+        })
     }
 }
 

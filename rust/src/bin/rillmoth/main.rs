@@ -22,7 +22,7 @@ use std::process::ExitCode;
 
 use help::Page;
 use status::{Status, FAILED, USAGE};
-use words::{Option as Known, Words};
+use words::{Known, Words};
 
 const HELP: Known = Known { names: &["--help", "-h"], word: false };
 const OUTPUT: Known = Known { names: &["-o", "--output"], word: true };

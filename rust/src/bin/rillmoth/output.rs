@@ -27,7 +27,9 @@ pub fn write(name: &OsStr, bytes: &[u8]) -> io::Result<()> {
     };
     match fs::metadata(&path) {
         // A device or a pipe has no place beside it.
-        Ok(about) if !about.is_file() && !about.is_dir() => OpenOptions::new().write(true).open(&path)?.write_all(bytes),
+        Ok(about) if !about.is_file() && !about.is_dir() => {
+            OpenOptions::new().write(true).open(&path)?.write_all(bytes)
+        }
         Ok(about) if about.is_dir() => Err(io::Error::new(ErrorKind::IsADirectory, "it is a folder")),
         Ok(about) => replace(&path, bytes, Some(about.permissions())),
         Err(error) if error.kind() == ErrorKind::NotFound => replace(&path, bytes, None),

@@ -21,7 +21,7 @@ pub fn rebound(words: &Words, status: &mut Status) -> Result<(), String> {
     let new = match (words.word("-o"), words.has("-i")) {
         (Some(new), false) => new,
         (None, true) if name == "-" => return Err(String::from("-i needs a file that has a name")),
-        (None, true) => name,
+        (None, true) => name.as_os_str(),
         _ => return Err(String::from("it needs -o NEW or -i")),
     };
     match make(name, Bounds { waiting, losses }, words.has("--mend")) {
@@ -56,7 +56,11 @@ pub fn deliver(name: &OsStr, file: &[u8], status: &mut Status) {
 fn make(name: &OsStr, bounds: Bounds, mend: bool) -> io::Result<Result<Vec<u8>, Refusal>> {
     let input = input::house(name)?;
     let (mut mended, mut file) = (input::room(MOST_FILE_BYTES)?, input::room(MOST_FILE_BYTES)?);
-    let made = if mend { with_mended(&input, bounds, &mut mended, &mut file) } else { rillmoth::rebind(&input.bytes, bounds, &mut file) };
+    let made = if mend {
+        with_mended(&input, bounds, &mut mended, &mut file)
+    } else {
+        rillmoth::rebind(&input.bytes, bounds, &mut file)
+    };
     Ok(match made {
         Ok(length) => {
             file.truncate(length);

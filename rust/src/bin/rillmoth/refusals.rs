@@ -91,7 +91,7 @@ fn header(bytes: &[u8]) -> String {
         [0x1f, 0x8b, ..] => "It is packed by gzip. gunzip <OLD >NEW unpacks it.",
         [0x28, 0xb5, 0x2f, 0xfd, ..] => "It is packed by zstd. zstd -d <OLD >NEW unpacks it.",
         [0xd4, 0xc3, 0xb2, 0xa1, rest @ ..] | [0xa1, 0xb2, 0xc3, 0xd4, rest @ ..] => return classic(bytes[0] == 0xd4, rest),
-        [1, 0, 0, 0, 6, 0, ..] if bytes.len() % 512 == 0 => {
+        [1, 0, 0, 0, 6, 0, ..] if bytes.len().is_multiple_of(512) => {
             "It looks like a house file. The rules come first, then the capture: rillmoth import RULES CAPTURE -o NEW."
         }
         _ => "It is no capture: its first bytes are not those of one. Fetch it again, as binary.",
@@ -102,7 +102,9 @@ fn header(bytes: &[u8]) -> String {
 /// A classic capture after its magic.
 fn classic(low_first: bool, rest: &[u8]) -> String {
     let Some(rest) = rest.get(..20) else {
-        return String::from("It was cut off within its first 24 bytes: fetch it again, or stop the tap before it is copied.");
+        return String::from(
+            "It was cut off within its first 24 bytes: fetch it again, or stop the tap before it is copied.",
+        );
     };
     let mut link = [rest[16], rest[17], rest[18], rest[19]];
     if !low_first {

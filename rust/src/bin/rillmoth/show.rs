@@ -48,12 +48,15 @@ fn in_words(house: &House) -> String {
         Source::Rows => "0, the rows below",
         Source::Standard => "1, the standard box, whose rows are below",
     };
+    let lost = match bounds.losses {
+        1 => String::from("none may be lost"),
+        losses => format!("at most {} may be lost in a row", losses - 1),
+    };
     let mut text = format!(
-        "states   {states}\ninputs   {inputs}\noutputs  {outputs}\nB        {} may wait\nc        {}, so at most {} may be lost in a row\n\
-         source   {source}\nevents   {}\n\n",
+        "states   {states}\ninputs   {inputs}\noutputs  {outputs}\nB        {}, so many may wait\nc        {}, so {lost}\nsource   \
+         {source}\nevents   {}\n\n",
         bounds.waiting,
         bounds.losses,
-        bounds.losses - 1,
         events.len()
     );
     let columns = (0..*inputs).map(|a| format!("i{a}")).chain((0..*outputs).map(|a| format!("o{a}")));

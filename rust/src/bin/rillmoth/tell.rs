@@ -22,7 +22,11 @@ pub fn called(name: &OsStr, stream: &str) -> String {
 
 /// What is wrong, where, what to do, and where to read on.
 pub fn refused(name: &str, refusal: &Refusal, of: Of) {
-    say(&format!("{name}: {refusal}\n  {}\n  More: rillmoth help {}, or docs/REFUSALS.md", advice(refusal, of), refusal.number()));
+    say(&format!(
+        "{name}: {refusal}\n  {}\n  More: rillmoth help {}, or docs/REFUSALS.md",
+        advice(refusal, of),
+        refusal.number()
+    ));
 }
 
 /// An error of the system.

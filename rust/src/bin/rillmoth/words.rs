@@ -4,7 +4,7 @@ use std::ffi::{OsStr, OsString};
 
 /// An option of a command.
 #[derive(Clone, Copy)]
-pub struct Option {
+pub struct Known {
     /// All its names, as `-o` and `--output`.
     pub names: &'static [&'static str],
     /// Whether a word goes with it.
@@ -25,13 +25,13 @@ impl Words {
     }
 
     /// The word that was given with it.
-    pub fn word(&self, name: &str) -> std::option::Option<&OsStr> {
+    pub fn word(&self, name: &str) -> Option<&OsStr> {
         self.options.iter().find(|(known, _)| *known == name).map(|(_, word)| word.as_os_str())
     }
 }
 
 /// Takes words apart; the error says which is wrong.
-pub fn take(known: &[Option], words: impl IntoIterator<Item = OsString>) -> Result<Words, String> {
+pub fn take(known: &[Known], words: impl IntoIterator<Item = OsString>) -> Result<Words, String> {
     let mut taken = Words::default();
     let mut words = words.into_iter();
     while let Some(word) = words.next() {
@@ -51,7 +51,8 @@ pub fn take(known: &[Option], words: impl IntoIterator<Item = OsString>) -> Resu
             Some((name, joined)) if name.starts_with("--") => (name, Some(OsString::from(joined))),
             _ => (text, None),
         };
-        let option = known.iter().find(|option| option.names.contains(&name)).ok_or(format!("{name} is no option of it"))?;
+        let option =
+            known.iter().find(|option| option.names.contains(&name)).ok_or(format!("{name} is no option of it"))?;
         let first = option.names[0];
         if taken.has(first) {
             return Err(format!("{first} is given twice"));
@@ -68,7 +69,7 @@ pub fn take(known: &[Option], words: impl IntoIterator<Item = OsString>) -> Resu
 }
 
 /// A whole number in decimal digits.
-pub fn number(word: &OsStr) -> std::option::Option<usize> {
+pub fn number(word: &OsStr) -> Option<usize> {
     let text = word.to_str()?;
     if text.is_empty() || !text.bytes().all(|byte| byte.is_ascii_digit()) {
         return None;
@@ -78,10 +79,11 @@ pub fn number(word: &OsStr) -> std::option::Option<usize> {
 
 #[cfg(test)]
 mod tests {
-    use super::{number, take, Option};
+    use super::{number, take, Known};
     use std::ffi::{OsStr, OsString};
 
-    const KNOWN: [Option; 2] = [Option { names: &["-o", "--output"], word: true }, Option { names: &["--mend"], word: false }];
+    const KNOWN: [Known; 2] =
+        [Known { names: &["-o", "--output"], word: true }, Known { names: &["--mend"], word: false }];
 
     fn words(line: &str) -> Result<super::Words, String> {
         take(&KNOWN, line.split(' ').map(OsString::from))
@@ -89,7 +91,12 @@ mod tests {
 
     #[test]
     fn options_stand_anywhere() {
-        for line in ["8 2 old -o new --mend", "--mend -o new 8 2 old", "8 --output=new --mend 2 old", "--mend --output new 8 2 -- old"] {
+        for line in [
+            "8 2 old -o new --mend",
+            "--mend -o new 8 2 old",
+            "8 --output=new --mend 2 old",
+            "--mend --output new 8 2 -- old",
+        ] {
             let words = words(line).expect(line);
             assert_eq!(words.operands, ["8", "2", "old"], "{line}");
             assert_eq!(words.word("-o"), Some(OsStr::new("new")), "{line}");
