@@ -1,8 +1,9 @@
 //! What is written: text to standard output, and house files, whole or not at all.
 
 use std::ffi::OsStr;
-use std::fs::{self, File, OpenOptions};
+use std::fs::{self, File, Metadata, OpenOptions};
 use std::io::{self, ErrorKind, Write};
+use std::os::unix::fs::{fchown, MetadataExt};
 use std::path::{Path, PathBuf};
 
 use crate::signals::Held;
@@ -31,21 +32,21 @@ pub fn write(name: &OsStr, bytes: &[u8]) -> io::Result<()> {
             OpenOptions::new().write(true).open(&path)?.write_all(bytes)
         }
         Ok(about) if about.is_dir() => Err(io::Error::new(ErrorKind::IsADirectory, "it is a folder")),
-        Ok(about) => replace(&path, bytes, Some(about.permissions())),
+        Ok(about) => replace(&path, bytes, Some(&about)),
         Err(error) if error.kind() == ErrorKind::NotFound => replace(&path, bytes, None),
         Err(error) => Err(error),
     }
 }
 
 /// Puts a file in the place of what stands there, if anything does: it is written beside, flushed, and renamed.
-fn replace(path: &Path, bytes: &[u8], permissions: Option<fs::Permissions>) -> io::Result<()> {
+fn replace(path: &Path, bytes: &[u8], old: Option<&Metadata>) -> io::Result<()> {
     let folder = match path.parent() {
         Some(folder) if folder != Path::new("") => folder,
         _ => Path::new("."),
     };
     let held = Held::new();
     let (beside, file) = begin(folder)?;
-    let done = fill(file, bytes, permissions).and_then(|()| {
+    let done = fill(file, bytes, old).and_then(|()| {
         if held.came() {
             return Err(ErrorKind::Interrupted.into());
         }
@@ -77,10 +78,12 @@ fn begin(folder: &Path) -> io::Result<(PathBuf, File)> {
     }
 }
 
-fn fill(mut file: File, bytes: &[u8], permissions: Option<fs::Permissions>) -> io::Result<()> {
+/// The file belongs to whom the old one belonged, where that may be, and has its rights.
+fn fill(mut file: File, bytes: &[u8], old: Option<&Metadata>) -> io::Result<()> {
     file.write_all(bytes)?;
-    if let Some(permissions) = permissions {
-        file.set_permissions(permissions)?;
+    if let Some(old) = old {
+        let _ = fchown(&file, Some(old.uid()), Some(old.gid()));
+        file.set_permissions(old.permissions())?;
     }
     file.sync_all()
 }
