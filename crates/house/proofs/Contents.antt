@@ -8,7 +8,8 @@ use native.Mathlib.Omega.{arith}
 use lib.Dec.{leb}
 use lib.ListN.{length}
 use borrow.Author.Tests.{leb-true}
-use Rattle.lent.specs.Lent.{front}
+use Rattle.lent.specs.Lent.{put}
+use Rattle.lent.proofs.Laws.{put-fits}
 use Rattle.model.specs.Limits.{most-states, most-inputs, most-outputs}
 use Rattle.table.proofs.Checks.{clash}
 use Rattle.table.proofs.Laws.{counts-pass, length-passes}
@@ -18,7 +19,7 @@ use Rattle.table.specs.declared.answer.Test.the-variants as table
 use Rattle.house.specs.Limits.{most-rows}
 use Rattle.house.specs.Verdicts.{must, of-table, is-passed, is-good, then, first-of}
 use Rattle.house.specs.File.{rows-of, events-of, contents-of}
-use Rattle.house.specs.Reading.{is-standard, states-held, shape-test, rows-test, limits-test, events-test, held-test, room-test, content-test, form-test, verdict, answer, after}
+use Rattle.house.specs.Reading.{is-standard, states-held, shape-test, rows-test, limits-test, events-test, held-test, room-test, content-test, form-test, verdict, answer, after, handed}
 use Rattle.house.specs.declared.answer.Contents.{Contents}
 use Rattle.house.specs.declared.answer.Reading.{Reading}
 use Rattle.house.specs.declared.answer.Reading.the-variants as reading
@@ -130,10 +131,16 @@ pub good-contents : (v : Verdict) (c x : Contents) → reading.Good x ≡ answer
 good-contents Passed c x e = cc
 good-contents (Refused r) c x e = clash (cc)
 
-pub after-good : (r : Reading) (d p : List ℕ) → is-good r ≡ true → front d p ≡ after r d p
-after-good (reading.Good c) d p e = refl
-after-good (reading.Refused x) d p e = clash (cc)
+-- what is handed out
+pub handed-good : (r : Reading) (d p : List ℕ) → is-good r ≡ true → put d p ≡ handed r d p
+handed-good (reading.Good c) d p e = refl
+handed-good (reading.Refused x) d p e = clash (cc)
 
-pub after-refused : (r : Reading) (d p : List ℕ) → is-good r ≡ false → d ≡ after r d p
-after-refused (reading.Good c) d p e = clash (cc)
-after-refused (reading.Refused x) d p e = refl
+pub handed-refused : (r : Reading) (d p : List ℕ) → is-good r ≡ false → d ≡ handed r d p
+handed-refused (reading.Good c) d p e = clash (cc)
+handed-refused (reading.Refused x) d p e = refl
+
+-- where there is room, all of it is
+pub handed-after : (r : Reading) (d p : List ℕ) → (is-good r ≡ true → length p ≤ length d) → handed r d p ≡ after r d p
+handed-after (reading.Good c) d p h = put-fits d p (h refl)
+handed-after (reading.Refused x) d p h = refl

@@ -53,6 +53,12 @@ module _ (q : ℕ) (s : List ℕ) where
   pub length-more : (k : ℕ) → length (joined q s (k + 1)) ≡ length (joined q s k) + length (share q (block-at s k))
   length-more k = ap length (joined-more k) ∙ length-append (joined q s k) (share q (block-at s k))
 
+  -- each block gives at most its room
+  pub joined-short : (k : ℕ) → length (joined q s k) ≤ room * k
+  unfolding joined
+  joined-short zero = omega arith
+  joined-short (suc k) = simp length-append (omega (arith, joined-short k, share-short (block-at s k) q))
+
   -- more blocks only add to the end
   rest : (k m : ℕ) → (l : List ℕ) × (joined q s (k + m) ≡ joined q s k ++ l)
   unfolding joined

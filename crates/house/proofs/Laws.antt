@@ -6,11 +6,13 @@ use Prim.Native.Nat.{ℕ, _≤_}
 use native.Mathlib.Omega.{arith}
 use lib.ListN.{length}
 use Rattle.lent.specs.Lent.{front}
-use Rattle.lent.proofs.Laws.{front-stands}
-use Rattle.house.specs.File.{rows-of, events-of, contents-of}
+use Rattle.lent.proofs.Laws.{front-stands, put-fits}
+use Rattle.block.specs.Limits.{row-kind, event-kind}
+use Rattle.house.specs.File.{blocks, rows-of, events-of, contents-of}
 use Rattle.table.proofs.Checks.{clash}
-use Rattle.house.specs.Reading.{verdict, after, Answers}
+use Rattle.house.specs.Reading.{form-test, verdict, after, handed, Answers}
 use Rattle.house.specs.Laws.{FormPasses, BlockTold, NoThirteen, FirstBad, OneReading, NothingWritten, Starts, WhatIsHeld, GoodRows, ContentsPass, RowsFit, ReadExactly, CountsHeld, WhatIsGood, RowsUntouched}
+use Rattle.house.specs.Laws.{OneUnpacking, NothingUnpacked, RoomEnough, WhatIsUnpacked}
 use Rattle.house.specs.declared.answer.Contents.{Contents}
 use Rattle.house.specs.declared.answer.Reading.the-variants.{Good}
 use Rattle.house.specs.declared.answer.Source.{Source}
@@ -21,6 +23,7 @@ use Rattle.house.proofs.Became
 use Rattle.house.proofs.Faults
 use Rattle.house.proofs.Contents.{good-passed, good-contents}
 use Rattle.house.proofs.Events.{valid-known, valid-to}
+use Rattle.house.proofs.Files.{joined-short}
 use Rattle.house.proofs.Forms
 use Rattle.house.proofs.Good
 
@@ -98,6 +101,36 @@ rows-untouched s d e c d′ e′ x h =
 pub counts-held : CountsHeld
 unfolding contents-of
 counts-held s = (refl, refl)
+
+-- The blocks alone.
+pub one-unpacking : OneUnpacking
+one-unpacking s d e r₁ r₂ d₁ d₂ e₁ e₂ x y =
+    let r = x .reading ∙ sym (y .reading) in
+    (r, x .rows ∙ ap (λ z. handed z d (rows-of s)) r ∙ sym (y .rows), x .events ∙ ap (λ z. handed z e (events-of s)) r ∙ sym (y .events))
+
+pub nothing-unpacked : NothingUnpacked
+nothing-unpacked s d e r d′ e′ x = (x .rows, x .events)
+
+pub room-enough : RoomEnough
+room-enough s g =
+    let few = g .counted .1 in
+    (omega (arith, joined-short row-kind s (blocks s)), omega (arith, joined-short event-kind s (blocks s)))
+
+pub what-is-unpacked : WhatIsUnpacked
+unfolding contents-of
+what-is-unpacked s d e c d′ e′ l m x =
+    let i = good-contents (form-test s) (contents-of s) c (x .reading) in
+    let g = form-passes s .0 (good-passed (form-test s) (contents-of s) (Good c) (x .reading) refl) in
+    let (a, b) = room-enough s g in
+    let few : length (rows-of s) ≤ length d = omega arith in
+    let short : length (events-of s) ≤ length e = omega arith in (
+      g,
+      record {
+        contents = i;
+        rows = starts d d′ (rows-of s) (c .rows) (ap (λ (z : Contents). z .rows) i) few (x .rows ∙ put-fits d (rows-of s) few);
+        events = starts e e′ (events-of s) (c .events) (ap (λ (z : Contents). z .events) i) short (x .events ∙ put-fits e (events-of s) short);
+      },
+    )
 
 -- What became of number 13.
 pub same-files : SameFiles

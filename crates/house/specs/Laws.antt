@@ -11,10 +11,10 @@ use Rattle.table.specs.declared.answer.Symbol.the-variants.{Invalid}
 use Rattle.flaw.specs.declared.Flaw.{Flaw}
 use Rattle.flaw.specs.declared.Test.the-variants.{Failed}
 use Rattle.block.specs.Block.{GoodBlock, block-test}
-use Rattle.house.specs.Limits.{most-events, most-rows, standard-states, standard-inputs, standard-outputs}
+use Rattle.house.specs.Limits.{most-bytes, most-events, most-rows, standard-states, standard-inputs, standard-outputs}
 use Rattle.house.specs.File.{block-at, blocks, block-before, GoodForm, rows-of, events-of, contents-of}
 use Rattle.table.specs.Tests.{invalid-at}
-use Rattle.house.specs.Reading.{is-whole, valid-events, held-test, form-test, verdict, Answers}
+use Rattle.house.specs.Reading.{is-whole, valid-events, held-test, form-test, verdict, Answers, Unpacks}
 use Rattle.house.specs.Refusals.{told}
 use Rattle.house.specs.declared.answer.Contents.{Contents}
 use Rattle.house.specs.declared.answer.Reading.{Reading}
@@ -127,3 +127,25 @@ WhatIsGood = (s d e : List ℕ) (c : Contents) (d′ e′ : List ℕ) → Answer
 -- With source 1 the row buffer is untouched.
 abbrev pub RowsUntouched : Type 0
 RowsUntouched = (s d e : List ℕ) (c : Contents) (d′ e′ : List ℕ) → Answers s d e (Good c) d′ e′ → c .source ≡ Standard → d′ ≡ d
+
+-- THE BLOCKS ALONE
+
+-- Of one file and two buffers, two unpackings give one answer and leave the same bytes.
+abbrev pub OneUnpacking : Type 0
+OneUnpacking =
+    (s d e : List ℕ) (r₁ r₂ : Reading) (d₁ d₂ e₁ e₂ : List ℕ) → Unpacks s d e r₁ d₁ e₁ → Unpacks s d e r₂ d₂ e₂
+    → (r₁ ≡ r₂) × (d₁ ≡ d₂) × (e₁ ≡ e₂)
+
+-- A file of a form that is refused leaves nothing.
+abbrev pub NothingUnpacked : Type 0
+NothingUnpacked = (s d e : List ℕ) (r : Refusal) (d′ e′ : List ℕ) → Unpacks s d e (Refused r) d′ e′ → (d′ ≡ d) × (e′ ≡ e)
+
+-- Good blocks hold no more bytes of rows, and no more events, than the longest file has bytes.
+abbrev pub RoomEnough : Type 0
+RoomEnough = (s : List ℕ) → GoodForm s → (length (rows-of s) ≤ most-bytes) × (length (events-of s) ≤ most-bytes)
+
+-- So, with buffers of so many bytes, what is unpacked is what a file of good blocks holds.
+abbrev pub WhatIsUnpacked : Type 0
+WhatIsUnpacked =
+    (s d e : List ℕ) (c : Contents) (d′ e′ : List ℕ) → most-bytes ≤ length d → most-bytes ≤ length e → Unpacks s d e (Good c) d′ e′
+    → GoodForm s × Held s d e c d′ e′

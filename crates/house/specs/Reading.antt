@@ -6,7 +6,7 @@ use mathlib.Core.Option.{Option, some, none}
 use Prim.Native.Nat.{ℕ, zero, suc, _%_}
 use lib.Dec.{eqb, leb}
 use lib.ListN.{length}
-use Rattle.lent.specs.Lent.{front}
+use Rattle.lent.specs.Lent.{front, put}
 use Rattle.table.specs.Bytes.{table-of}
 use Rattle.table.specs.First.{first}
 use Rattle.table.specs.Tests.{counts-test, length-test, entries-test, bounds-test, invalid-at}
@@ -148,3 +148,16 @@ pub record Answers (s d e : List ℕ) (r : Reading) (d′ e′ : List ℕ) : Typ
   pub reading : r ≡ answer (verdict s (length d) (length e)) (contents-of s)
   pub rows : d′ ≡ after r d (rows-of s)
   pub events : e′ ≡ after r e (events-of s)
+
+-- THE BLOCKS ALONE
+
+-- What blocks hold goes to the start of a buffer, if it has room there.
+abbrev pub handed : Reading → List ℕ → List ℕ → List ℕ
+handed (reading.Good c) buffer held = put buffer held
+handed (reading.Refused r) buffer held = buffer
+
+-- The file s unpacked into the buffers d and e: 11; then block by block 12, 20 to 23; what the blocks hold is not tested.
+pub record Unpacks (s d e : List ℕ) (r : Reading) (d′ e′ : List ℕ) : Type 0 where
+  pub reading : r ≡ answer (form-test s) (contents-of s)
+  pub rows : d′ ≡ handed r d (rows-of s)
+  pub events : e′ ≡ handed r e (events-of s)

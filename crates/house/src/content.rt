@@ -11,7 +11,7 @@ ghost use Rattle.house.specs.Limits.{most-rows, most-events};
 ghost use Rattle.house.specs.Verdicts.{must, of-table, first-of};
 ghost use Rattle.house.specs.declared.answer.Refusal.the-variants as refusal;
 ghost use Rattle.house.specs.File.{rows-of, events-of, source-of, contents-of};
-ghost use Rattle.house.specs.Reading.{is-standard, states-held, shape-test, rows-test, limits-test, events-test, held-test, room-test, content-test, given, verdict, answer};
+ghost use Rattle.house.specs.Reading.{is-standard, states-held, shape-test, rows-test, limits-test, events-test, held-test, room-test, content-test, given, form-test, verdict, answer};
 use super::answer::Contents;
 use super::answer::Reading;
 use super::answer::Refusal;
@@ -209,6 +209,17 @@ pub(crate) fn judge(file: &[u8], rows: usize, events: usize) -> Reading
             let c = contents(file);
             answer(content(file, c, rows, events), c)
         }
+    }
+}
+
+// What the file holds, if its form is good.
+pub(crate) fn held_by(file: &[u8]) -> Reading
+    ensures { λ r. ⌜ r ≡ answer (form-test (now (file .entry))) (contents-of (now (file .entry))) ⌝ }
+{
+    let form = file::form(file);
+    match form {
+        Verdict::Refused(r) => Reading::Refused(r),
+        Verdict::Passed => Reading::Good(contents(file)),
     }
 }
 

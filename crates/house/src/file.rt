@@ -57,7 +57,7 @@ fn test(file: &[u8]) -> Verdict
 }
 
 // Whether a file of so many bytes has whole blocks, at least one and not too many.
-fn whole(n: usize) -> bool
+pub fn whole(n: usize) -> bool
     ensures { λ r. ⌜ r ≡ is-whole n ⌝ }
 {
     if n < 1 {
