@@ -32,7 +32,11 @@ use Rattle.writer.proofs.Unique
 
 -- The file.
 pub laid-out : LaidOut
-laid-out c rows trace n g = laid c rows trace n (rows-fit c rows trace g) (g .few)
+laid-out c rows trace n l m = laid c rows trace n l m
+
+-- so of good contents
+pub good-laid : (c : Contents) (rows trace : List ℕ) → Counted c rows trace → GoodContents c rows trace → IsFile (file-of c rows trace) c rows trace
+good-laid c rows trace n g = laid-out c rows trace n (rows-fit c rows trace g) (g .few)
 
 pub long-as-needed : LongAsNeeded
 long-as-needed c rows trace n = long-enough c rows trace n
@@ -47,7 +51,7 @@ low s h k i l =
 pub good-is-file : GoodIsFile
 good-is-file s h g =
     record {
-      form = g .form;
+      form = g;
       spelt = λ k l. record { number-low = low s h k 2 (omega arith); used-low = low s h k 4 (omega arith); check-low = low s h k 510 (omega arith) };
       contents = refl;
       rows-held = refl;
@@ -136,9 +140,9 @@ writes-back s d e c d′ e′ o w o′ bytes a space x =
     let counted : Counted c rows trace =
     record { row-count = ap (λ (z : Contents). z .rows) (h .contents) ∙ counts-held s .0; event-count = ap (λ (z : Contents). z .events) (h .contents) ∙ counts-held s .1 } in
     let i : IsFile s c rows trace =
-    subst (λ (z : Contents). IsFile s z rows trace) (sym (h .contents)) (good-is-file s bytes (subst (λ (z : Contents). GoodFile s z) (h .contents) g)) in
+    subst (λ (z : Contents). IsFile s z rows trace) (sym (h .contents)) (good-is-file s bytes (g .form)) in
     let n : length s ≡ needed c =
-    ap length (one-file s (file-of c rows trace) c rows trace i (laid-out c rows trace counted (g .contents))) ∙ long-as-needed c rows trace counted in
+    ap length (one-file s (file-of c rows trace) c rows trace i (good-laid c rows trace counted (g .contents))) ∙ long-as-needed c rows trace counted in
     let l : needed c ≤ length o = omega arith in
     let p = write-exactly c rows trace (length o) counted .1 (g .contents, l) in
     let e₁ : w ≡ Written (needed c) = passed-written (write-test c rows trace (length o)) c w (y .answer) p in

@@ -21,7 +21,7 @@ use Rattle.writer.specs.Laws.{Counted}
 use Rattle.writer.specs.Layout.{file-of}
 use Rattle.writer.specs.Writing.{needed, write-test, IsFile, Writes}
 use Rattle.writer.specs.declared.answer.Writing.the-variants.{Written, Refused}
-use Rattle.writer.proofs.Laws.{laid-out, long-as-needed}
+use Rattle.writer.proofs.Laws.{good-laid, long-as-needed}
 
 module _ (c : Contents) (rows trace o : List ℕ) where
   -- contents that are refused are the answer
@@ -44,7 +44,7 @@ module _ (c : Contents) (rows trace o : List ℕ) where
     pub placed : (f : List ℕ) → n ≤ length o → f ≡ file-of c rows trace → Writes c rows trace o (Written n) (f ++ drop n o)
     unfolding write-test
     placed f l h =
-        let is : IsFile f c rows trace = rw h (laid-out c rows trace k g) in
+        let is : IsFile f c rows trace = rw h (good-laid c rows trace k g) in
         let long : length f ≡ n = ap length h ∙ long-as-needed c rows trace k ∙ sym e in
         let fits : needed c ≤ length o = omega arith in
         record {

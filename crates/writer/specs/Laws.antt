@@ -5,9 +5,10 @@ use mathlib.Core.Logic.{_↔_}
 use Prim.Native.Nat.{ℕ, _≤_, _<_}
 use lib.ListN.{length, take}
 use Rattle.block.specs.Block.{byte}
-use Rattle.house.specs.File.{rows-of, events-of, contents-of}
+use Rattle.house.specs.Limits.{most-rows, most-events}
+use Rattle.house.specs.File.{GoodForm, rows-of, events-of, contents-of}
 use Rattle.house.specs.Reading.{given, Answers}
-use Rattle.house.specs.Laws.{GoodContents, GoodFile, Starts}
+use Rattle.house.specs.Laws.{GoodContents, Starts}
 use Rattle.house.specs.declared.answer.Contents.{Contents}
 use Rattle.house.specs.declared.answer.Reading.{Reading}
 use Rattle.house.specs.declared.answer.Reading.the-variants as reading
@@ -25,10 +26,11 @@ pub record Counted (c : Contents) (rows trace : List ℕ) : Type 0 where
   pub row-count : c .rows ≡ length rows
   pub event-count : c .events ≡ length trace
 
--- The bytes that the writer lays out are a file of these contents, by the reader's definition,
+-- The bytes that the writer lays out are a file of these contents, by the reader's definition, whatever they are, if there are no more
+-- rows and events than good contents have,
 abbrev pub LaidOut : Type 0
 LaidOut =
-    (c : Contents) (rows trace : List ℕ) → Counted c rows trace → GoodContents c rows trace
+    (c : Contents) (rows trace : List ℕ) → Counted c rows trace → length rows ≤ most-rows → length trace ≤ most-events
     → IsFile (file-of c rows trace) c rows trace
 
 -- as long as 10 says,
@@ -43,9 +45,9 @@ OneFile = (f g : List ℕ) (c : Contents) (rows trace : List ℕ) → IsFile f c
 abbrev pub Bytes : List ℕ → Type 0
 Bytes f = (i : ℕ) → byte f i < 256
 
--- A good file of bytes is the file of what it holds.
+-- A file of bytes whose form is good is the file of what it holds.
 abbrev pub GoodIsFile : Type 0
-GoodIsFile = (s : List ℕ) → Bytes s → GoodFile s (contents-of s) → IsFile s (contents-of s) (rows-of s) (events-of s)
+GoodIsFile = (s : List ℕ) → Bytes s → GoodForm s → IsFile s (contents-of s) (rows-of s) (events-of s)
 
 -- THE WRITING
 
