@@ -21,7 +21,7 @@ use Rattle.writer.proofs.Blocks.{length-body, check-same}
 use Rattle.writer.proofs.Laws.{long-as-needed}
 use Rattle.remake.specs.Remaking.{changed, waiting-at, losses-at, Elsewhere}
 use Rattle.remake.specs.Laws.{ReboundAlone, NoLessDoes}
-use Rattle.remake.proofs.Made.{Made, made}
+use Rattle.remake.proofs.Made.{Made, rebound-made}
 
 -- TWO BYTES OF A LIST
 
@@ -210,8 +210,8 @@ module _ (s : List ℕ) (waiting losses : ℕ) (f : List ℕ) (m : Made s waitin
   losses-were = refl
 
   -- the new bounds have another check
-  same-check : stored f ≡ stored s → (waiting ≡ contents-of s .waiting) × (losses ≡ contents-of s .losses)
-  same-check e =
+  same-check : Bounded (contents-of s .waiting) (contents-of s .losses) → stored f ≡ stored s → (waiting ≡ contents-of s .waiting) × (losses ≡ contents-of s .losses)
+  same-check good e =
       let weights = weighed-apart f s (check-at - 11) (λ i l n k. elsewhere i (record {
         not-waiting = n;
         not-losses = k;
@@ -220,13 +220,13 @@ module _ (s : List ℕ) (waiting losses : ℕ) (f : List ℕ) (m : Made s waitin
       })) in
       bounds-told (weighed f check-at) (weighed s check-at) waiting losses (contents-of s .waiting) (contents-of s .losses)
       (rw (waiting-was, losses-were, waiting-there, losses-there) at weights)
-      (sym (stored-is f (m .new-file .form)) ∙ e ∙ stored-is s (m .old .form))
-      (m .new .bounds) (m .old .contents .bounds)
+      (sym (stored-is f (m .new-file .form)) ∙ e ∙ stored-is s (m .old))
+      (m .new .bounds) good
 
 pub rebound-alone : ReboundAlone
 rebound-alone s waiting losses o n o′ b r =
     let f : List ℕ = take n o′ in
-    let m = made s waiting losses (events-of s) o n o′ b r in
+    let m = rebound-made s waiting losses o n o′ b r in
     record {
       as-long = as-long s waiting losses f m;
       elsewhere = elsewhere s waiting losses f m;
@@ -238,9 +238,9 @@ rebound-alone s waiting losses o n o′ b r =
 pub no-less-does : NoLessDoes
 no-less-does s waiting losses o n o′ b r =
     let f : List ℕ = take n o′ in
-    let m = made s waiting losses (events-of s) o n o′ b r in
+    let m = rebound-made s waiting losses o n o′ b r in
     record {
       waiting-moves = λ other e. other (sym (waiting-there s waiting losses f m) ∙ e ∙ waiting-was s waiting losses f m);
       losses-move = λ other e. other (sym (losses-there s waiting losses f m) ∙ e ∙ losses-were s waiting losses f m);
-      check-moves = λ other e. other (same-check s waiting losses f m e);
+      check-moves = λ good other e. other (same-check s waiting losses f m good e);
     }

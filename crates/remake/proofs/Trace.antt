@@ -15,7 +15,7 @@ use Rattle.writer.specs.Layout.{block-of, run-of, all-of, setup-of, file-of}
 use Rattle.writer.proofs.Laws.{long-as-needed}
 use Rattle.remake.specs.Remaking.{rows-end}
 use Rattle.remake.specs.Laws.{RetracedAlone}
-use Rattle.remake.proofs.Made.{made}
+use Rattle.remake.proofs.Made.{retraced-made}
 
 module _ (source : Source) (states inputs outputs waiting losses : ℕ) (rows : List ℕ) where
   abbrev with : List ℕ → Contents
@@ -41,7 +41,7 @@ pub retraced-alone : RetracedAlone
 unfolding contents-of
 retraced-alone s trace o n o′ b r =
     let c = contents-of s in
-    let m = made s (c .waiting) (c .losses) trace o n o′ b r in
+    let m = retraced-made s trace o n o′ b r in
     let at = start-is (c .source) (c .states) (c .inputs) (c .outputs) (c .waiting) (c .losses) (rows-of s) in
     record {
       start = ap (take (rows-end (rows-of s))) (m .new-is)

@@ -1,6 +1,6 @@
 // House files made from others: with other bounds, or with another trace. Every input is answered, with a file at the buffer's start or with
-// the first refusal: the reader's of the file that was given, then the writer's of what is to be written. A refusal leaves the buffer as
-// it was, and later bytes always stay.
+// the first refusal: of the file that was given, then the writer's of what is to be written. A refusal leaves the buffer as it was, and
+// later bytes always stay.
 ghost use lib.ListN.{take};
 ghost use Rattle.house.specs.Reading.{given};
 ghost use Rattle.writer.specs.Writing.{Writes};
@@ -10,7 +10,10 @@ use house::Reading;
 use lent::front;
 use writer::Writing;
 
-// The most bytes of rows and of events that a house file gives.
+// The most bytes of rows, or of events, that blocks hold: no more than the longest file has.
+const BLOCK_ROOM: usize = 7680;
+
+// The most bytes of rows, and the most events, that a good file gives.
 const ROW_ROOM: usize = 2048;
 
 const EVENT_ROOM: usize = 4096;
@@ -40,13 +43,13 @@ fn put<'a>(
     )
 }
 
-// Writes the house file `file` with these bounds in place of its own.
+// Writes the house file `file` with these bounds in place of its own, which are not looked at.
 pub fn rebound(file: &[u8], waiting: usize, losses: usize, out: &mut [u8]) -> Writing
     ensures { λ w. ⌜ Rebinds (now (file .entry)) waiting losses (now (out .entry)) w (now (out .exit)) ⌝ }
 {
-    let mut rows = [0u8; ROW_ROOM];
-    let mut events = [0u8; EVENT_ROOM];
-    let reading = house::read(file, &mut rows, &mut events);
+    let mut rows = [0u8; BLOCK_ROOM];
+    let mut events = [0u8; BLOCK_ROOM];
+    let reading = house::unpack(file, &mut rows, &mut events);
     match reading {
         Reading::Refused(r) => Writing::Refused(r),
         Reading::Good(c) => put(

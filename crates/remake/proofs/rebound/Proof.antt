@@ -1,19 +1,19 @@
 -- `rebound` meets its contract. Assumes nothing.
 use Prim.Native.Nat.{ℕ}
 use lib.ListN.{length-replicate}
-use Rattle.remake.proofs.Remaking.{unread, rebinds}
+use Rattle.remake.proofs.Remaking.{unmade, rebinds}
 use borrow.Author.Needs.{needs}
 use Rattle.remake.proofs.rebound.Statement.{statement}
 use Rattle.remake.proofs.rebound.Tie as tie
 
-slice-aggregate-read : tie.Need-slice-aggregate-read
-slice-aggregate-read c = search needs
+slice-aggregate-unpack : tie.Need-slice-aggregate-unpack
+slice-aggregate-unpack c = search needs
 
-slice-aggregate-read-2 : tie.Need-slice-aggregate-read-2
-slice-aggregate-read-2 c = search needs
+slice-aggregate-unpack-2 : tie.Need-slice-aggregate-unpack-2
+slice-aggregate-unpack-2 c = search needs
 
-read-requires : tie.Need-read-requires
-read-requires c κs = search needs
+unpack-requires : tie.Need-unpack-requires
+unpack-requires c κs = search needs
 
 enum-known-reading : tie.Need-enum-known-reading
 enum-known-reading c = search needs
@@ -37,7 +37,7 @@ put-requires : tie.Need-put-requires
 put-requires c κs = search needs
 
 returns : tie.Need-returns
-returns c = unread _ _ _ _ _ _ _ _ _ _ _ (length-replicate {A = ℕ} 2048 0) (length-replicate {A = ℕ} 4096 0) (c .before .before .before .before .before .read .ensures) (c .before .reading .given .1)
+returns c = unmade _ _ _ _ _ _ _ _ _ (c .before .before .before .before .before .unpack .ensures .reading) (c .before .reading .given .1)
 
 same-length : tie.Need-same-length
 same-length c = search needs
@@ -48,16 +48,16 @@ returns-2 c =
     let g = p .before .before in
     let f = g .before .before in
     let r = f .before .before .before in
-    rebinds _ _ _ _ _ _ _ (length-replicate {A = ℕ} 2048 0) (length-replicate {A = ℕ} 4096 0) (r .before .before .before .before .read .ensures)
-    (r .reading2 .given .1) _ _ _ _ (f .front .ensures) _ _ _ (g .front2 .ensures) (p .put .ensures)
+    rebinds _ _ _ _ _ _ _ _ _ _ _ _ (f .front .ensures) (length-replicate {A = ℕ} 7680 0) (length-replicate {A = ℕ} 7680 0)
+    (r .before .before .before .before .unpack .ensures) (r .reading2 .given .1) _ _ (g .front2 .ensures) (p .put .ensures)
 
 pub rebound-spec : {M : Type 1} → statement M
 rebound-spec =
     tie.close
     (tie.spec
-    slice-aggregate-read
-    slice-aggregate-read-2
-    read-requires
+    slice-aggregate-unpack
+    slice-aggregate-unpack-2
+    unpack-requires
     enum-known-reading
     enum-known-reading-2
     slice-aggregate-front

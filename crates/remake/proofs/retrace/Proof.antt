@@ -1,7 +1,7 @@
 -- `retrace` meets its contract. Assumes nothing.
 use Prim.Native.Nat.{ℕ}
 use lib.ListN.{length-replicate}
-use Rattle.remake.proofs.Remaking.{unread, retraces}
+use Rattle.remake.proofs.Remaking.{unmade, read-so, retraces}
 use borrow.Author.Needs.{needs}
 use Rattle.remake.proofs.retrace.Statement.{statement}
 use Rattle.remake.proofs.retrace.Tie as tie
@@ -37,7 +37,9 @@ put-requires : tie.Need-put-requires
 put-requires c κs = search needs
 
 returns : tie.Need-returns
-returns c = unread _ _ _ _ _ _ _ _ _ _ _ (length-replicate {A = ℕ} 2048 0) (length-replicate {A = ℕ} 4096 0) (c .before .before .before .before .before .read .ensures) (c .before .reading .given .1)
+returns c =
+    let h = c .before .before .before .before .before .read .ensures in
+    unmade _ _ _ _ _ _ _ _ _ (read-so _ _ _ _ _ _ (length-replicate {A = ℕ} 2048 0) (length-replicate {A = ℕ} 4096 0) h) (c .before .reading .given .1)
 
 same-length : tie.Need-same-length
 same-length c = search needs
@@ -47,8 +49,8 @@ returns-2 c =
     let p = c .before .before in
     let f = p .before .before in
     let r = f .before .before .before .before .before in
-    retraces _ _ _ _ _ _ _ (length-replicate {A = ℕ} 2048 0) (length-replicate {A = ℕ} 4096 0) (r .before .before .before .before .read .ensures)
-    (r .reading2 .given .1) _ _ _ _ (f .front .ensures) _ (p .put .ensures)
+    retraces _ _ _ _ _ _ _ _ _ _ _ _ (f .front .ensures) (length-replicate {A = ℕ} 2048 0) (length-replicate {A = ℕ} 4096 0)
+    (r .before .before .before .before .read .ensures) (r .reading2 .given .1) (p .put .ensures)
 
 pub retrace-spec : {M : Type 1} → statement M
 retrace-spec =
