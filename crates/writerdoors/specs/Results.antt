@@ -1,5 +1,5 @@
--- What `rillmoth_write` answers and leaves in the memory lent to it, for every input. Its answer is false exactly when the memory for its
--- results is too short, and then nothing is written. What is longer keeps the rest. Assumes nothing.
+-- What the functions of this crate answer and leave in the memory lent to them, for every input. The answer is false exactly when the memory
+-- for the results is too short, and then nothing is written. What is longer keeps the rest. Assumes nothing.
 use mathlib.Core.Path.{_≡_}
 use mathlib.Core.Bool.{Bool, true, false, cond}
 use mathlib.Core.List.{List, [], _∷_}
@@ -13,6 +13,7 @@ use Rattle.house.specs.declared.answer.Source.the-variants.{Rows, Standard}
 use Rattle.writer.specs.Writing.{Writes}
 use Rattle.writer.specs.Refusals.{told-of, length-of}
 use Rattle.writer.specs.declared.answer.Writing.{Writing}
+use Rattle.remake.specs.Remaking.{Rebinds, Retraces}
 
 -- The source is 0 for the rows that are given, anything else for the standard box.
 abbrev pub source-meant : ℕ → Source
@@ -25,11 +26,21 @@ write-size = 4
 abbrev pub write-results : Writing → List ℕ
 write-results w = told-of w .number ∷ told-of w .place ∷ told-of w .second ∷ length-of w ∷ []
 
--- The results are at the start of their memory. What is in the buffer is the writer's part.
-pub data WriteAnswers (source : Source) (rows : List ℕ) (states inputs outputs waiting losses : ℕ) (trace out told : List ℕ)
-    : Bool → List ℕ → List ℕ → Type 0 where
-  short : leb write-size (length told) ≡ false
-      → WriteAnswers source rows states inputs outputs waiting losses trace out told false out told
-  writes : {w : Writing} {out′ : List ℕ} → leb write-size (length told) ≡ true
-      → Writes (given source states inputs outputs waiting losses rows trace) rows trace out w out′
-      → WriteAnswers source rows states inputs outputs waiting losses trace out told true out′ (front told (write-results w))
+-- The results are at the start of their memory. Which answer it is, and what is in the buffer then, P says: it is the writer's part.
+pub data Making (P : Writing → List ℕ → Type 0) (out told : List ℕ) : Bool → List ℕ → List ℕ → Type 0 where
+  short : leb write-size (length told) ≡ false → Making P out told false out told
+  writes : {w : Writing} {out′ : List ℕ} → leb write-size (length told) ≡ true → P w out′
+      → Making P out told true out′ (front told (write-results w))
+
+-- A file is written,
+abbrev pub WriteAnswers : Source → List ℕ → (states inputs outputs waiting losses : ℕ) → (trace out told : List ℕ) → Bool → List ℕ → List ℕ → Type 0
+WriteAnswers source rows states inputs outputs waiting losses trace out told a out′ told′ =
+    Making (λ w o. Writes (given source states inputs outputs waiting losses rows trace) rows trace out w o) out told a out′ told′
+
+-- made with other bounds,
+abbrev pub RebindAnswers : List ℕ → (waiting losses : ℕ) → (out told : List ℕ) → Bool → List ℕ → List ℕ → Type 0
+RebindAnswers file waiting losses out told a out′ told′ = Making (λ w o. Rebinds file waiting losses out w o) out told a out′ told′
+
+-- or made with another trace.
+abbrev pub RetraceAnswers : (file trace out told : List ℕ) → Bool → List ℕ → List ℕ → Type 0
+RetraceAnswers file trace out told a out′ told′ = Making (λ w o. Retraces file trace out w o) out told a out′ told′

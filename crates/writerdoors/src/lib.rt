@@ -1,11 +1,12 @@
-// The writer of house files for programs in other languages, as the crate `sessiondoors` has sessions for them: numbers and lent slices only. A
-// slice is passed as its address, which may be null where the count is 0, and its count of elements. No slice that is written to lies over
-// another. Nothing else is asked: every input is answered. The answer is false exactly when the memory lent for the results is too short,
-// and then nothing is written; a refusal is an answer of true, with its number in the results.
+// House files for programs in other languages, as the crate `sessiondoors` has sessions for them: one is written, or made from another with other
+// bounds or with another trace. Numbers and lent slices only. A slice is passed as its address, which may be null where the count is 0, and
+// its count of elements. No slice that is written to lies over another. Nothing else is asked: every function answers every input. It
+// answers false exactly when the memory lent for its results is too short, and then nothing is written; a refusal is an answer of true, with
+// its number in the results. These are four words: number, place and second place, and how many bytes the file has that is at the start of `out`.
 ghost use mathlib.Core.Path.{_≡_};
 ghost use Rattle.table.specs.Refusals.{told-at};
 ghost use Rattle.writer.specs.Refusals.{told-of, length-of};
-ghost use Rattle.writerdoors.specs.Results.{source-meant, write-results, WriteAnswers};
+ghost use Rattle.writerdoors.specs.Results.{source-meant, write-results, WriteAnswers, RebindAnswers, RetraceAnswers};
 use house::Source;
 use table::Told;
 use writer::Writing;
@@ -61,8 +62,7 @@ fn of_write(writing: Writing) -> [u64; 4]
     [t.number as u64, t.place as u64, t.second as u64, n as u64]
 }
 
-// Writes a house file to the start of `out`. The source is 0 for the rows that are given, anything else for the standard box. The results
-// are number, place and second place, and how many bytes the file has.
+// Writes a house file. The source is 0 for the rows that are given, anything else for the standard box.
 #[no_mangle]
 pub extern "C" fn rillmoth_write(
     source: usize,
@@ -93,5 +93,42 @@ pub extern "C" fn rillmoth_write(
         &mut *out,
     );
     lent::put_words(&of_write(writing), &mut *told, 0);
+    true
+}
+
+// Writes a house file with these bounds in place of its own, which are not looked at.
+#[no_mangle]
+pub extern "C" fn rillmoth_rebind(
+    file: &[u8],
+    waiting: usize,
+    losses: usize,
+    out: &mut [u8],
+    told: &mut [u64],
+) -> bool
+    ensures { λ r. ⌜ RebindAnswers (now (file .entry)) waiting losses (now (out .entry)) (now (told .entry)) r (now (out .exit)) (now (told .exit)) ⌝ }
+{
+    if told.len() < WRITE {
+        return false;
+    }
+    let rebound = remake::rebound(file, waiting, losses, &mut *out);
+    lent::put_words(&of_write(rebound), &mut *told, 0);
+    true
+}
+
+// Writes a house file with this trace in place of its own.
+#[no_mangle]
+pub extern "C" fn rillmoth_retrace<'a>(
+    file: &'a [u8],
+    trace: &'a [u8],
+    out: &mut [u8],
+    told: &mut [u64],
+) -> bool
+    ensures { λ r. ⌜ RetraceAnswers (now (file .entry)) (now (trace .entry)) (now (out .entry)) (now (told .entry)) r (now (out .exit)) (now (told .exit)) ⌝ }
+{
+    if told.len() < WRITE {
+        return false;
+    }
+    let retraced = remake::retrace(file, trace, &mut *out);
+    lent::put_words(&of_write(retraced), &mut *told, 0);
     true
 }

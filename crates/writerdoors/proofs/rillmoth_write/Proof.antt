@@ -1,7 +1,7 @@
 -- `rillmoth_write` meets its contract. Assumes nothing.
 use borrow.Author.Tests.{lt-leb, le-leb}
 use Rattle.writerdoors.specs.Results as doors
-use Rattle.writerdoors.proofs.Answers.{writes-by}
+use Rattle.writerdoors.proofs.Answers.{writes-meant}
 use borrow.Author.Needs.{needs}
 use Rattle.writerdoors.proofs.rillmoth_write.Statement.{statement}
 use Rattle.writerdoors.proofs.rillmoth_write.Tie as tie
@@ -36,7 +36,7 @@ returns-2 c =
     let w = p .before .before .before in
     let i = w .before .before .before in
     let m = i .before .before in
-    writes-by (i .write .result) (le-leb _ _ (m .before .if1 .left)) (m .meant .ensures) (i .write .ensures) (w .of-write .ensures) (p .put-words .ensures)
+    writes-meant (i .write .result) (le-leb _ _ (m .before .if1 .left)) (m .meant .ensures) (i .write .ensures) (w .of-write .ensures) (p .put-words .ensures)
 
 pub rillmoth-write-spec : {M : Type 1} → statement M
 rillmoth-write-spec =
