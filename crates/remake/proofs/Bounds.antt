@@ -26,7 +26,7 @@ use Rattle.remake.proofs.Made.{Made, rebound-made}
 -- TWO BYTES OF A LIST
 
 -- where they do not stand, their values do not matter
-beside : (p : List ℕ) (x y x′ y′ : ℕ) (q : List ℕ) (i : ℕ) → (i ≡ length p → ⊥) → (i ≡ length p + 1 → ⊥)
+pub beside : (p : List ℕ) (x y x′ y′ : ℕ) (q : List ℕ) (i : ℕ) → (i ≡ length p → ⊥) → (i ≡ length p + 1 → ⊥)
     → getD (p ++ x ∷ y ∷ q) i 0 ≡ getD (p ++ x′ ∷ y′ ∷ q) i 0
 beside [] x y x′ y′ q zero n m = absurd (n refl)
 beside [] x y x′ y′ q (suc zero) n m = absurd (m refl)

@@ -31,7 +31,9 @@ use Rattle.writer.proofs.Laws.{laid-out, write-exactly, one-writing, writes-bac
 use Rattle.remake.specs.Remaking.{row-room, event-room, changed, Remakes, refused, written}
 use Rattle.remake.specs.Laws.{OneRemaking, OneRebinding, OneRetracing, FormWritten, GoodWritten, SameAgain}
 use Rattle.remake.specs.Laws.{GivenTold, AnyRebound, SomeRebound, ReboundAlone, NoLessDoes, RetracedAlone}
+use Rattle.remake.specs.Laws.{OneMending, MendedAlone, MendedSame, MendedPasses}
 use Rattle.remake.proofs.Bounds
+use Rattle.remake.proofs.Mending
 use Rattle.remake.proofs.Telling
 use Rattle.remake.proofs.Trace
 
@@ -163,3 +165,16 @@ no-less-does = Bounds.no-less-does
 
 pub retraced-alone : RetracedAlone
 retraced-alone = Trace.retraced-alone
+
+-- The check put right.
+pub one-mending : OneMending
+one-mending = Mending.one-mending
+
+pub mended-alone : MendedAlone
+mended-alone = Mending.mended-alone
+
+pub mended-same : MendedSame
+mended-same = Mending.mended-same
+
+pub mended-passes : MendedPasses
+mended-passes = Mending.mended-passes

@@ -2,18 +2,19 @@
 use mathlib.Core.Path.{_≡_}
 use mathlib.Core.List.{List}
 use mathlib.Core.Logic.{_⊎_}
-use Prim.Native.Nat.{ℕ, _≤_}
+use Prim.Native.Nat.{ℕ, _+_, _≤_}
 use lib.ListN.{length, take}
 use Rattle.model.specs.Table.{Bounded}
 use Rattle.table.specs.declared.answer.Refusal.the-variants.{Waiting}
-use Rattle.block.specs.Limits.{block-size}
+use Rattle.flaw.specs.declared.Flaw.the-variants.{Check}
+use Rattle.block.specs.Limits.{block-size, check-at}
 use Rattle.block.specs.Block.{byte, stored, check}
 use Rattle.house.specs.File.{GoodForm, rows-of, events-of, contents-of}
 use Rattle.house.specs.Laws.{GoodContents, GoodFile}
-use Rattle.house.specs.Reading.{verdict}
+use Rattle.house.specs.Reading.{form-test, verdict}
 use Rattle.house.specs.Refusals.{told}
 use Rattle.house.specs.declared.answer.Refusal.{Refusal}
-use Rattle.house.specs.declared.answer.Refusal.the-variants.{Content}
+use Rattle.house.specs.declared.answer.Refusal.the-variants.{Block, Content}
 use Rattle.house.specs.declared.answer.Verdict.{Verdict}
 use Rattle.house.specs.declared.answer.Verdict.the-variants as verdict
 use Rattle.writer.specs.Writing.{needed, Writes}
@@ -21,6 +22,7 @@ use Rattle.writer.specs.Laws.{Bytes, SameBytes}
 use Rattle.writer.specs.declared.answer.Writing.{Writing}
 use Rattle.writer.specs.declared.answer.Writing.the-variants.{Written, Refused}
 use Rattle.remake.specs.Remaking.{row-room, event-room, changed, Remakes, waiting-at, losses-at, Elsewhere, Rebinds, rows-end, Retraces}
+use Rattle.remake.specs.Mending.{Mends}
 
 -- Two answers for the same file, change and buffer are equal, and they leave the same bytes.
 abbrev pub OneRemaking : Type 0
@@ -126,3 +128,28 @@ pub record TraceAlone (s trace f : List ℕ) : Type 0 where
 abbrev pub RetracedAlone : Type 0
 RetracedAlone =
     (s trace o : List ℕ) (n : ℕ) (o′ : List ℕ) → Bytes s → Retraces s trace o (Written n) o′ → TraceAlone s trace (take n o′)
+
+-- THE CHECK PUT RIGHT
+
+-- Two answers for the same file and buffer are equal, and they leave the same bytes.
+abbrev pub OneMending : Type 0
+OneMending = (s o : List ℕ) (w₁ w₂ : Writing) (o₁ o₂ : List ℕ) → Mends s o w₁ o₁ → Mends s o w₂ o₂ → (w₁ ≡ w₂) × (o₁ ≡ o₂)
+
+-- A mended file f differs from the old file s in the check of block 0 alone: every byte but those two is as in the old file, there is no
+-- other byte, and the check is that of the bytes before it.
+pub record CheckAlone (s f : List ℕ) : Type 0 where
+  pub as-long : length f ≡ length s
+  pub elsewhere : (i : ℕ) → (i ≡ check-at → ⊥) → (i ≡ check-at + 1 → ⊥) → byte f i ≡ byte s i
+  pub check-there : stored f ≡ check f
+
+abbrev pub MendedAlone : Type 0
+MendedAlone = (s o : List ℕ) (n : ℕ) (o′ : List ℕ) → Mends s o (Written n) o′ → CheckAlone s (take n o′)
+
+-- A file of bytes whose check of block 0 is right comes out as it went in.
+abbrev pub MendedSame : Type 0
+MendedSame = (s o : List ℕ) (n : ℕ) (o′ : List ℕ) → Bytes s → stored s ≡ check s → Mends s o (Written n) o′ → take n o′ ≡ s
+
+-- 12 is never told of block 0 of a mended file.
+abbrev pub MendedPasses : Type 0
+MendedPasses =
+    (s o : List ℕ) (n : ℕ) (o′ : List ℕ) → Mends s o (Written n) o′ → form-test (take n o′) ≡ verdict.Refused (Block Check 0) → ⊥

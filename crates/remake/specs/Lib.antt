@@ -1,2 +1,3 @@
 pub mod Remaking
+pub mod Mending
 pub mod Laws

@@ -1,12 +1,17 @@
-// House files made from others: with other bounds, or with another trace. Every input is answered, with a file at the buffer's start or with
-// the first refusal: of the file that was given, then the writer's of what is to be written. A refusal leaves the buffer as it was, and
-// later bytes always stay.
+// House files made from others: with other bounds, with another trace, or with the check of block 0 put right. Every input is answered,
+// with a file at the buffer's start or with the first refusal: of the file that was given, then of what is to be written. A refusal leaves
+// the buffer as it was, and later bytes always stay.
+ghost use mathlib.Core.Path.{_≡_};
 ghost use lib.ListN.{take};
+ghost use Rattle.block.specs.Block.{check};
 ghost use Rattle.house.specs.Reading.{given};
+ghost use Rattle.writer.specs.Layout.{spelling};
 ghost use Rattle.writer.specs.Writing.{Writes};
+ghost use Rattle.remake.specs.Mending.{Mends};
 ghost use Rattle.remake.specs.Remaking.{Rebinds, Retraces};
 use house::Contents;
 use house::Reading;
+use house::Refusal;
 use lent::front;
 use writer::Writing;
 
@@ -81,4 +86,29 @@ pub fn retrace<'a>(file: &'a [u8], trace: &'a [u8], out: &mut [u8]) -> Writing
             &mut *out,
         ),
     }
+}
+
+// The check of a file's first bytes, as it stands in block 0.
+fn check_of(file: &[u8]) -> [u8; 2]
+    ensures { λ r. ⌜ r ≡ spelling (check (now (file .entry))) ⌝ }
+{
+    let n = block::check(file);
+    [(n % 256) as u8, (n / 256) as u8]
+}
+
+// Writes the house file `file` with the check of block 0 put right. Of the file nothing but its length is tested.
+pub fn mend(file: &[u8], out: &mut [u8]) -> Writing
+    ensures { λ w. ⌜ Mends (now (file .entry)) (now (out .entry)) w (now (out .exit)) ⌝ }
+{
+    let n = file.len();
+    if !house::whole(n) {
+        return Writing::Refused(Refusal::Length(n));
+    }
+    if out.len() < n {
+        return Writing::Refused(Refusal::Content(table::Refusal::Buffer(n)));
+    }
+    let check = check_of(file);
+    lent::put_bytes(file, &mut *out, 0);
+    lent::put_bytes(&check, &mut *out, block::CHECK_AT);
+    Writing::Written(n)
 }
