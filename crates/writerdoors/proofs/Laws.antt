@@ -12,10 +12,11 @@ use Rattle.writer.specs.Writing.{Writes}
 use Rattle.writer.specs.declared.answer.Writing.{Writing}
 use Rattle.writer.proofs.Laws.{one-writing}
 use Rattle.remake.specs.Remaking.{Rebinds, Retraces}
-use Rattle.remake.proofs.Laws.{one-rebinding, one-retracing}
+use Rattle.remake.specs.Mending.{Mends}
+use Rattle.remake.proofs.Laws.{one-rebinding, one-retracing, one-mending}
 use Rattle.writerdoors.specs.Results.{write-size, write-results, Making}
 use Rattle.writerdoors.specs.Results as doors
-use Rattle.writerdoors.specs.Laws.{MakingFalse, MakingFalseKeeps, OneWriteAnswer, OneRebindAnswer, OneRetraceAnswer}
+use Rattle.writerdoors.specs.Laws.{MakingFalse, MakingFalseKeeps, OneWriteAnswer, OneRebindAnswer, OneRetraceAnswer, OneMendAnswer}
 
 -- memory is not both too short and long enough
 not-both : {A : Type 0} {r : Bool} → r ≡ false → r ≡ true → A
@@ -47,3 +48,6 @@ one-rebind-answer f b c d = one-answer (λ w x. Rebinds f b c d w x) (one-rebind
 
 pub one-retrace-answer : OneRetraceAnswer
 one-retrace-answer f t d = one-answer (λ w x. Retraces f t d w x) (one-retracing f t d) d
+
+pub one-mend-answer : OneMendAnswer
+one-mend-answer f d = one-answer (λ w x. Mends f d w x) (one-mending f d) d

@@ -7,7 +7,7 @@ use Prim.Native.Nat.{ℕ, _<_}
 use lib.ListN.{length}
 use Rattle.house.specs.declared.answer.Source.{Source}
 use Rattle.writer.specs.declared.answer.Writing.{Writing}
-use Rattle.writerdoors.specs.Results.{write-size, Making, WriteAnswers, RebindAnswers, RetraceAnswers}
+use Rattle.writerdoors.specs.Results.{write-size, Making, WriteAnswers, RebindAnswers, RetraceAnswers, MendAnswers}
 
 -- Each function answers false exactly when the memory for its results is too short,
 abbrev pub MakingFalse : Type 1
@@ -39,3 +39,8 @@ OneRetraceAnswer =
     (file trace out told : List ℕ) (a₁ a₂ : Bool) (out₁ told₁ out₂ told₂ : List ℕ)
     → RetraceAnswers file trace out told a₁ out₁ told₁ → RetraceAnswers file trace out told a₂ out₂ told₂
     → (a₁ ≡ a₂) × (out₁ ≡ out₂) × (told₁ ≡ told₂)
+
+abbrev pub OneMendAnswer : Type 0
+OneMendAnswer =
+    (file out told : List ℕ) (a₁ a₂ : Bool) (out₁ told₁ out₂ told₂ : List ℕ) → MendAnswers file out told a₁ out₁ told₁
+    → MendAnswers file out told a₂ out₂ told₂ → (a₁ ≡ a₂) × (out₁ ≡ out₂) × (told₁ ≡ told₂)

@@ -14,6 +14,7 @@ use Rattle.writer.specs.Writing.{Writes}
 use Rattle.writer.specs.Refusals.{told-of, length-of}
 use Rattle.writer.specs.declared.answer.Writing.{Writing}
 use Rattle.remake.specs.Remaking.{Rebinds, Retraces}
+use Rattle.remake.specs.Mending.{Mends}
 
 -- The source is 0 for the rows that are given, anything else for the standard box.
 abbrev pub source-meant : ℕ → Source
@@ -41,6 +42,10 @@ WriteAnswers source rows states inputs outputs waiting losses trace out told a o
 abbrev pub RebindAnswers : List ℕ → (waiting losses : ℕ) → (out told : List ℕ) → Bool → List ℕ → List ℕ → Type 0
 RebindAnswers file waiting losses out told a out′ told′ = Making (λ w o. Rebinds file waiting losses out w o) out told a out′ told′
 
--- or made with another trace.
+-- made with another trace,
 abbrev pub RetraceAnswers : (file trace out told : List ℕ) → Bool → List ℕ → List ℕ → Type 0
 RetraceAnswers file trace out told a out′ told′ = Making (λ w o. Retraces file trace out w o) out told a out′ told′
+
+-- or made with the check of block 0 put right.
+abbrev pub MendAnswers : (file out told : List ℕ) → Bool → List ℕ → List ℕ → Type 0
+MendAnswers file out told a out′ told′ = Making (λ w o. Mends file out w o) out told a out′ told′

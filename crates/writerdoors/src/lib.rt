@@ -1,17 +1,18 @@
-// House files for programs in other languages, as the crate `sessiondoors` has sessions for them: one is written, or made from another with other
-// bounds or with another trace. Numbers and lent slices only. A slice is passed as its address, which may be null where the count is 0, and
-// its count of elements. No slice that is written to lies over another. Nothing else is asked: every function answers every input. It
-// answers false exactly when the memory lent for its results is too short, and then nothing is written; a refusal is an answer of true, with
-// its number in the results. These are four words: number, place and second place, and how many bytes the file has that is at the start of `out`.
+// House files for programs in other languages, as the crate `sessiondoors` has sessions for them: one is written, or made from another with
+// other bounds, with another trace, or with the check of block 0 put right. Numbers and lent slices only. A slice is passed as its address,
+// which may be null where the count is 0, and its count of elements. No slice that is written to lies over another. Nothing else is asked:
+// every function answers every input. It answers false exactly when the memory lent for its results is too short, and then nothing is
+// written; a refusal is an answer of true, with its number in the results. The results are number, place and second place, and how many bytes
+// the file has, which is at the start of `out`.
 ghost use mathlib.Core.Path.{_≡_};
 ghost use Rattle.table.specs.Refusals.{told-at};
 ghost use Rattle.writer.specs.Refusals.{told-of, length-of};
-ghost use Rattle.writerdoors.specs.Results.{source-meant, write-results, WriteAnswers, RebindAnswers, RetraceAnswers};
+ghost use Rattle.writerdoors.specs.Results.{source-meant, write-results, WriteAnswers, RebindAnswers, RetraceAnswers, MendAnswers};
 use house::Source;
 use table::Told;
 use writer::Writing;
 
-// How many words the results are.
+// How many words the results are, of every function.
 const WRITE: usize = 4;
 
 // 0 is the rows that are given, anything else the standard box.
@@ -130,5 +131,18 @@ pub extern "C" fn rillmoth_retrace<'a>(
     }
     let retraced = remake::retrace(file, trace, &mut *out);
     lent::put_words(&of_write(retraced), &mut *told, 0);
+    true
+}
+
+// Writes a house file with the check of block 0 put right. Of the file nothing but its length is tested.
+#[no_mangle]
+pub extern "C" fn rillmoth_mend(file: &[u8], out: &mut [u8], told: &mut [u64]) -> bool
+    ensures { λ r. ⌜ MendAnswers (now (file .entry)) (now (out .entry)) (now (told .entry)) r (now (out .exit)) (now (told .exit)) ⌝ }
+{
+    if told.len() < WRITE {
+        return false;
+    }
+    let mended = remake::mend(file, &mut *out);
+    lent::put_words(&of_write(mended), &mut *told, 0);
     true
 }
