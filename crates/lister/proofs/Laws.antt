@@ -12,11 +12,13 @@ use Rattle.house.proofs.Laws.{read-exactly}
 use Rattle.lister.specs.Judging.{row-room, refused, cramped, listed}
 use Rattle.lister.specs.Laws.{OneJudging, GoodListed, OnlyBadRefused, PiecesJoined, PieceFits, PieceHeld, LastSays, OneSaid}
 use Rattle.lister.specs.Laws.{WholeInput, GoodText, OtherText, OneListing}
+use Rattle.lister.specs.Laws.{TextShort, TextNone, TextFits, TextPlaced, TextLists, TextGood, GoodTold, OtherTold, OneText}
 use Rattle.lister.proofs.Judging.{run-good}
 use Rattle.lister.proofs.Listed.{clash, refusals, passes}
 use Rattle.lister.proofs.Joined
 use Rattle.lister.proofs.Kept
 use Rattle.lister.proofs.Listed
+use Rattle.lister.proofs.Summaries
 use Rattle.lister.specs.declared.judge.Judged.the-variants.{Refused, Ran as Listed}
 
 pub one-judging : OneJudging
@@ -70,3 +72,31 @@ other-text = Listed.other-text
 
 pub one-listing : OneListing
 one-listing = Listed.one-listing
+
+-- The listing in memory.
+pub text-short : TextShort
+text-short = Summaries.text-short
+
+pub text-none : TextNone
+text-none = Summaries.text-none
+
+pub text-fits : TextFits
+text-fits = Summaries.text-fits
+
+pub text-placed : TextPlaced
+text-placed = Summaries.text-placed
+
+pub text-lists : TextLists
+text-lists = Summaries.text-lists
+
+pub text-good : TextGood
+text-good = Summaries.text-good
+
+pub good-told : GoodTold
+good-told = Summaries.good-told
+
+pub other-told : OtherTold
+other-told = Summaries.other-told
+
+pub one-text : OneText
+one-text = Summaries.one-text

@@ -4,4 +4,6 @@ mod Lengths
 mod Joined
 mod Kept
 mod Listed
+mod Putting
+mod Summaries
 mod Built

@@ -30,10 +30,11 @@ use Rattle.house.specs.declared.answer.Verdict.the-variants as verdict
 use Rattle.house.proofs.Laws.{rows-fit, read-exactly}
 use Rattle.lister.specs.Judging.{row-room, RunsFile, Judges, refused, cramped, listed}
 use Rattle.lister.specs.Listing.{event-room, result-room, twelve-of, line-at, refusal-line, joined, listing-of}
-use Rattle.lister.specs.Listing.{outcome-of, verdict-of, Kept, Lists}
+use Rattle.lister.specs.Listing.{outcome-of, Kept, Lists}
 use Rattle.lister.specs.Laws.{table-meant, PlausibleAfter, GoodListing, GoodText, OtherListing, OtherText, OneListing}
 use Rattle.lister.specs.declared.Outcome.{Outcome}
 use Rattle.lister.specs.declared.judge.Judged.{Judged}
+use Rattle.lister.specs.declared.judge.Judged.the-variants.{Refused, Ran as Listed}
 use Rattle.lister.proofs.Judging.{opens}
 use Rattle.lister.proofs.Lengths.{own-length, too-long}
 use Rattle.lister.proofs.Joined.{joined-same}
@@ -50,15 +51,15 @@ passes s room l g =
     read-exactly s row-room room .1
     (g, rows-fit (contents-of s) (rows-of s) (events-of s) (g .contents), omega (arith, g .contents .few))
 
-good-short : (s : List ℕ) → GoodFile s (contents-of s) → length s ≤ most-bytes
+pub good-short : (s : List ℕ) → GoodFile s (contents-of s) → length s ≤ most-bytes
 good-short s g = omega (arith, g .form .whole, g .form .counted)
 
 -- a file that is not too long is kept whole
-whole : (f s : List ℕ) → length f ≤ most-bytes → Kept f s → s ≡ f
+pub whole : (f s : List ℕ) → length f ≤ most-bytes → Kept f s → s ≡ f
 whole f s h (m, l, e) = e ∙ take-all m f (omega arith)
 
 -- and of one that is, too much
-long : (f s : List ℕ) → most-bytes < length f → Kept f s → most-bytes < length s
+pub long : (f s : List ℕ) → most-bytes < length f → Kept f s → most-bytes < length s
 long f s h (m, l, e) = rw (e, length-take m f) (omega arith)
 
 -- THE LINES
@@ -182,22 +183,29 @@ same-flag f o₁ o₂ a b x y v w =
     (one-flag (box (table-meant f)) (contents-of f .waiting) (contents-of f .losses) (events (events-of f)) (place-of x) (place-of y)
     (v .flag) (w .flag))
 
--- two listings of one good file
-one-good : (f e₁ o₁ e₂ o₂ : List ℕ) (j₁ j₂ : Judged) (e₁′ o₁′ e₂′ o₂′ : List ℕ) (n : ℕ) → length e₁ ≡ event-room → length e₂ ≡ event-room
-    → GoodFile f (contents-of f) → length o₁ ≡ result-room → length o₂ ≡ result-room
-    → Judges f e₁ o₁ j₁ e₁′ o₁′ → Judges f e₂ o₂ j₂ e₂′ o₂′
-    → (listing-of j₁ n e₁′ o₁′ ≡ listing-of j₂ n e₂′ o₂′) × (outcome-of j₁ ≡ outcome-of j₂)
-one-good f e₁ o₁ e₂ o₂ j₁ j₂ a b c d n l₁ l₂ g m₁ m₂ (refused x) y = absurd (clash (sym (passes f (length e₁) (omega arith) g) ∙ x))
-one-good f e₁ o₁ e₂ o₂ j₁ j₂ a b c d n l₁ l₂ g m₁ m₂ (cramped v x) y = absurd (omega (arith, g .contents .few))
-one-good f e₁ o₁ e₂ o₂ j₁ j₂ a b c d n l₁ l₂ g m₁ m₂ (listed v p w) (refused x) =
-    absurd (clash (sym (passes f (length e₂) (omega arith) g) ∙ x))
-one-good f e₁ o₁ e₂ o₂ j₁ j₂ a b c d n l₁ l₂ g m₁ m₂ (listed v p w) (cramped v′ x) = absurd (omega (arith, g .contents .few))
-one-good f e₁ o₁ e₂ o₂ j₁ j₂ a b c d n l₁ l₂ g m₁ m₂ (listed {f = x} v p w) (listed {f = y} v′ p′ w′) =
+-- the results of a file that passed have room
+pub not-cramped : (f e o : List ℕ) → length o ≡ result-room → verdict f row-room (length e) ≡ verdict.Passed
+    → length o < 12 * length (events-of f) → ⊥
+not-cramped f e o m v h = omega (arith, read-exactly f row-room (length e) .0 v .0 .contents .few)
+
+-- two judgings of one file come to the same, whatever stood in the rooms
+pub one-judged : (f e₁ o₁ e₂ o₂ : List ℕ) (j₁ j₂ : Judged) (a b c d : List ℕ) (n : ℕ) → length e₁ ≡ event-room → length e₂ ≡ event-room
+    → length o₁ ≡ result-room → length o₂ ≡ result-room → Judges f e₁ o₁ j₁ a b → Judges f e₂ o₂ j₂ c d
+    → (j₁ ≡ j₂) × (listing-of j₁ n a b ≡ listing-of j₂ n c d)
+one-judged f e₁ o₁ e₂ o₂ j₁ j₂ a b c d n l₁ l₂ m₁ m₂ (refused {r = p} x) (refused {r = q} y) =
+    let same : p ≡ q = refusals (sym (rw l₁ at x) ∙ (rw l₂ at y)) in
+    (ap Refused same, ap (λ (z : Refusal). refusal-line z n) same)
+one-judged f e₁ o₁ e₂ o₂ j₁ j₂ a b c d n l₁ l₂ m₁ m₂ (refused x) (cramped v l) = absurd (not-cramped f e₂ o₂ m₂ v l)
+one-judged f e₁ o₁ e₂ o₂ j₁ j₂ a b c d n l₁ l₂ m₁ m₂ (refused x) (listed v p w) = absurd (clash (sym (rw l₂ at v) ∙ (rw l₁ at x)))
+one-judged f e₁ o₁ e₂ o₂ j₁ j₂ a b c d n l₁ l₂ m₁ m₂ (cramped v l) y = absurd (not-cramped f e₁ o₁ m₁ v l)
+one-judged f e₁ o₁ e₂ o₂ j₁ j₂ a b c d n l₁ l₂ m₁ m₂ (listed v p w) (refused x) = absurd (clash (sym (rw l₁ at v) ∙ (rw l₂ at x)))
+one-judged f e₁ o₁ e₂ o₂ j₁ j₂ a b c d n l₁ l₂ m₁ m₂ (listed v p w) (cramped v′ l) = absurd (not-cramped f e₂ o₂ m₂ v′ l)
+one-judged f e₁ o₁ e₂ o₂ j₁ j₂ a b c d n l₁ l₂ m₁ m₂ (listed {f = x} v p w) (listed {f = y} v′ p′ w′) =
     let flags : x ≡ y = same-flag f o₁ o₂ b d x y w w′ in
     let lines = joined-same (line-at (front e₁ (events-of f)) b) (line-at (front e₂ (events-of f)) d) (length (events-of f)) each in (
+      ap (λ (z : Flag). Listed (length (events-of f)) z) flags,
       ap (λ (z : List ℕ). header ++ z ++ last-line x) lines
           ∙ ap (λ (z : Flag). header ++ joined (line-at (front e₂ (events-of f)) d) (length (events-of f)) ++ last-line z) flags,
-      ap verdict-of flags,
     )
   where
     each : (k : ℕ) → k < length (events-of f) → line-at (front e₁ (events-of f)) b k ≡ line-at (front e₂ (events-of f)) d k
@@ -216,9 +224,9 @@ one-from verdict.Passed f t₁ t₂ r₁ r₂ v x y =
     let h = rw (whole f (x .kept) (good-short f g) (x .is-kept)) at (s .judges) in
     let i = rw (whole f (y .kept) (good-short f g) (y .is-kept)) at (t .judges) in
     let (p, q) =
-    one-good f (s .events-before) (s .results-before) (t .events-before) (t .results-before) (x .judged) (y .judged) (x .events)
-    (x .results) (y .events) (y .results) (length f) (s .event-room-is) (t .event-room-is) g (s .result-room-is) (t .result-room-is) h i in
-    (x .text-is ∙ p ∙ sym (y .text-is), x .outcome-is ∙ q ∙ sym (y .outcome-is))
+    one-judged f (s .events-before) (s .results-before) (t .events-before) (t .results-before) (x .judged) (y .judged) (x .events)
+    (x .results) (y .events) (y .results) (length f) (s .event-room-is) (t .event-room-is) (s .result-room-is) (t .result-room-is) h i in
+    (x .text-is ∙ q ∙ sym (y .text-is), x .outcome-is ∙ ap outcome-of p ∙ sym (y .outcome-is))
 one-from (verdict.Refused r) f t₁ t₂ r₁ r₂ v x y =
     let bad : GoodFile f (contents-of f) → ⊥ = λ g. clash (sym (passes f event-room (omega arith) g) ∙ v) in
     let a = other-text f t₁ r₁ bad x in

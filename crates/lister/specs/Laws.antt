@@ -2,13 +2,16 @@
 use mathlib.Core.Path.{_≡_}
 use mathlib.Core.Bool.{true}
 use mathlib.Core.List.{List, _++_}
+use mathlib.Core.Logic.{_↔_}
 use Prim.Native.Nat.{ℕ, suc, _-_, _≤_, _<_}
-use lib.ListN.{length, take, getD}
+use lib.ListN.{length, take, drop, getD}
 use Rattle.model.specs.Table.{Table}
 use Rattle.model.specs.Model.{box, events, Set, Plausible, FlagIs}
 use Rattle.table.specs.Bytes.{table-of}
+use Rattle.table.specs.Refusals.{told-at}
 use Rattle.session.specs.Session.{place-of}
 use Rattle.session.specs.declared.Flag.{Flag}
+use Rattle.session.specs.declared.Flag.the-variants as flag
 use Rattle.lines.specs.Texts.{most-text, text-of}
 use Rattle.lines.specs.Lines.{header, last-line, refused-line, consistent, flagged, refused}
 use Rattle.lines.specs.Laws.{Tells}
@@ -24,6 +27,8 @@ use Rattle.house.specs.declared.answer.Refusal.{Refusal}
 use Rattle.lister.specs.Judging.{row-room, rows-meant, RunsFile, Judges}
 use Rattle.lister.specs.Listing.{event-room, result-room, joined, listing-of, piece-of, pieces-of}
 use Rattle.lister.specs.Listing.{verdict-of, outcome-of, Kept, Lists}
+use Rattle.lister.specs.Putting.{text-room, no-summary, outcome-told, Texts}
+use Rattle.lister.specs.declared.Summary.{Summary}
 use Rattle.lister.specs.declared.Outcome.{Outcome}
 use Rattle.lister.specs.declared.Outcome.the-variants as outcome
 use Rattle.lister.specs.declared.judge.Judged.{Judged}
@@ -127,3 +132,68 @@ OtherText = (f text : List ℕ) (r : Outcome) → (GoodFile f (contents-of f) �
 -- A file has one listing, and it comes to one thing.
 abbrev pub OneListing : Type 0
 OneListing = (f t₁ t₂ : List ℕ) (r₁ r₂ : Outcome) → Lists f t₁ r₁ → Lists f t₂ r₂ → (t₁ ≡ t₂) × (r₁ ≡ r₂)
+
+-- THE LISTING IN MEMORY
+
+-- Memory that is shorter than the room stays as it was, and nothing is told.
+abbrev pub TextShort : Type 0
+TextShort =
+    (s : List ℕ) (n : ℕ) (o : List ℕ) (r : Summary) (o′ : List ℕ) → length o < text-room → Texts s n o r o′ → (r ≡ no-summary) × (o′ ≡ o)
+
+-- No bytes are told exactly then: every listing has some.
+abbrev pub TextNone : Type 0
+TextNone = (s : List ℕ) (n : ℕ) (o : List ℕ) (r : Summary) (o′ : List ℕ) → Texts s n o r o′ → r .bytes ≡ 0 ↔ (length o < text-room)
+
+-- The text is never longer than the room.
+abbrev pub TextFits : Type 0
+TextFits = (s : List ℕ) (n : ℕ) (o : List ℕ) (r : Summary) (o′ : List ℕ) → Texts s n o r o′ → r .bytes ≤ text-room
+
+-- There are at most 4,096 events, and a flag's place is that of one of them.
+pub record Placed (r : Summary) : Type 0 where
+  pub few : r .events ≤ event-room
+  pub within : (place : ℕ) → r .flag ≡ flag.At place → place < r .events
+
+abbrev pub TextPlaced : Type 0
+TextPlaced = (s : List ℕ) (n : ℕ) (o : List ℕ) (r : Summary) (o′ : List ℕ) → Texts s n o r o′ → Placed r
+
+-- What is put of a file is its listing, and later bytes stay.
+abbrev pub TextLists : Type 0
+TextLists =
+    (f s o : List ℕ) (r : Summary) (o′ : List ℕ) → Kept f s → text-room ≤ length o → Texts s (length f) o r o′
+    → Lists f (take (r .bytes) o′) (outcome-told r) × (drop (r .bytes) o′ ≡ drop (r .bytes) o)
+
+-- Number 0 is told exactly of a good file.
+abbrev pub TextGood : Type 0
+TextGood =
+    (f s o : List ℕ) (r : Summary) (o′ : List ℕ) → Kept f s → text-room ≤ length o → Texts s (length f) o r o′
+    → r .told .number ≡ 0 ↔ GoodFile f (contents-of f)
+
+-- With a good file's listing are told how many events it has, and the model's flag.
+pub record GoodSummary (f : List ℕ) (r : Summary) : Type 0 where
+  pub unrefused : r .told ≡ told-at 0 0
+  pub events-are : r .events ≡ length (events-of f)
+  pub flag-is : FlagIs (box (table-meant f)) (contents-of f .waiting) (contents-of f .losses) (events (events-of f)) (place-of (r .flag))
+
+abbrev pub GoodTold : Type 0
+GoodTold =
+    (f s o : List ℕ) (r : Summary) (o′ : List ℕ) → GoodFile f (contents-of f) → Kept f s → text-room ≤ length o
+    → Texts s (length f) o r o′ → GoodSummary f r
+
+-- With any other's are told document 01's number and places of its refusal, no events and no flag.
+pub record OtherSummary (f : List ℕ) (r : Summary) : Type 0 where
+  pub refusal : Refusal
+  pub refused-by : verdict f row-room event-room ≡ verdict.Refused refusal
+  pub told-is : r .told ≡ told refusal
+  pub events-are : r .events ≡ 0
+  pub flag-is : r .flag ≡ flag.None
+
+abbrev pub OtherTold : Type 0
+OtherTold =
+    (f s o : List ℕ) (r : Summary) (o′ : List ℕ) → (GoodFile f (contents-of f) → ⊥) → Kept f s → text-room ≤ length o
+    → Texts s (length f) o r o′ → OtherSummary f r
+
+-- Of one input there is one answer, and one content of the memory that was lent.
+abbrev pub OneText : Type 0
+OneText =
+    (s : List ℕ) (n : ℕ) (o : List ℕ) (r₁ r₂ : Summary) (o₁ o₂ : List ℕ) → Texts s n o r₁ o₁ → Texts s n o r₂ o₂
+    → (r₁ ≡ r₂) × (o₁ ≡ o₂)

@@ -1,13 +1,21 @@
-// Lists a house file: reads it, runs its trace, and writes the listing piece by piece, a line each. No input, however damaged, stops it; a
-// failed read or write ends it. Which bytes a piece is, and how many there are, specs/Listing.antt says; only `say`, `say_all`, `list_file`
-// and `list` touch a descriptor, and of what they write no contract can speak.
+// Lists a house file: reads it, runs its trace, and writes the listing piece by piece, a line each, to a descriptor or into memory that is
+// lent. No input, however damaged, stops it; a failed read or write ends it. Which bytes a piece is, and how many there are,
+// specs/Listing.antt says; only `say`, `say_all`, `list_file` and `list` touch a descriptor, and of what they write no contract can speak.
 use judge::Judged;
 use lines::Text;
+use session::Flag;
+use table::Told;
 ghost use mathlib.Core.Path.{_≡_};
 ghost use Rattle.lister.specs.Listing.{unless-broken, Comes};
 
 mod judge;
 mod pieces;
+mod whole;
+
+pub use whole::text;
+
+// Bytes that are enough for every listing: the header, 4,096 events and the last line, of 96 bytes each at most.
+pub const LISTING_ROOM: usize = (4096 + 2) * 96;
 
 // What the listing came to.
 pub enum Outcome {
@@ -16,6 +24,17 @@ pub enum Outcome {
     Refused,
     // The input could not be read to its end, or the listing not written.
     Broken,
+}
+
+// What is told with a listing that stands in memory.
+pub struct Summary {
+    // The number and the places of the refusal; zeros, where there is none.
+    pub told: Told,
+    // How many bytes the listing has.
+    pub bytes: usize,
+    // How many events the file has; none, where it is refused.
+    pub events: usize,
+    pub flag: Flag,
 }
 
 fn say(output: i32, t: Text) -> bool {

@@ -5,12 +5,14 @@ use super::judge::Judged;
 use house::Refusal;
 use lines::Text;
 use session::Flag;
+use table::Told;
 ghost use mathlib.Core.Path.{_≡_};
 ghost use Prim.Native.Nat.{_≤_};
 ghost use lib.ListN.{take};
 ghost use Rattle.lines.specs.Texts.{text-of};
 ghost use Rattle.lister.specs.Listing.{event-room, twelve-of, line-at, run-piece, piece-of, refusal-line, true-length};
 ghost use Rattle.lister.specs.Listing.{events-in, pieces-of, verdict-of, outcome-of};
+ghost use Rattle.lister.specs.Putting.{refusal-told, flag-told};
 
 // The twelve bytes of event k among a run's results; none, where there are not so many.
 fn twelve(results: &[u8], k: usize) -> &[u8]
@@ -105,5 +107,39 @@ pub(crate) fn outcome(judged: Judged) -> Outcome
     match judged {
         Judged::Refused(_) => Outcome::Refused,
         Judged::Ran(_, flag) => verdict(flag),
+    }
+}
+
+// The number and the places of the refusal of a file of this length; zeros, where there is none.
+pub(crate) fn refusal(judged: Judged, length: usize) -> Told
+    ensures { λ r. ⌜ r ≡ refusal-told judged length ⌝ }
+{
+    match judged {
+        Judged::Refused(r) => house::tell(true_length(r, length)),
+        Judged::Ran(_, _) => Told {
+            number: 0,
+            place: 0,
+            second: 0,
+        },
+    }
+}
+
+// How many events there are; none, where the file is refused.
+pub(crate) fn events(judged: Judged) -> usize
+    ensures { λ r. ⌜ r ≡ events-in judged ⌝ }
+{
+    match judged {
+        Judged::Refused(_) => 0,
+        Judged::Ran(n, _) => n,
+    }
+}
+
+// The flag, if any.
+pub(crate) fn flag(judged: Judged) -> Flag
+    ensures { λ r. ⌜ r ≡ flag-told judged ⌝ }
+{
+    match judged {
+        Judged::Refused(_) => Flag::None,
+        Judged::Ran(_, flag) => flag,
     }
 }
