@@ -12,8 +12,11 @@ use Rattle.run.specs.declared.Ran.{Ran}
 use Rattle.run.specs.Run.{Runs}
 use Rattle.house.specs.declared.answer.Reading.{Reading}
 use Rattle.house.specs.Reading.{Answers}
-use Rattle.filedoors.specs.Results.{run-size, run-results, read-size, read-results}
-use Rattle.filedoors.specs.Doors.{Running, Read}
+use Rattle.table.proofs.Checks.{both}
+use Rattle.lister.specs.declared.Summary.{Summary}
+use Rattle.lister.specs.Putting.{text-room, Texts}
+use Rattle.filedoors.specs.Results.{run-size, run-results, read-size, read-results, listing-size, listing-results}
+use Rattle.filedoors.specs.Doors.{Running, Read, roomy, Listing}
 use Rattle.filedoors.specs.Doors as doors
 
 pub runs-by : {rows : List ℕ} {s i o B c : ℕ} {trace out t out′ v t′ : List ℕ} (r : Ran) → leb run-size (length t) ≡ true
@@ -27,3 +30,10 @@ pub reads-by : {file rows events t rows′ events′ v t′ : List ℕ} (r : Rea
 reads-by {t = t} {v = v} {t′ = t′} r e f g h =
     let z : t′ ≡ front t (read-results r) = put-start t v (read-results r) t′ (leb-true _ _ e) g h in
     rw z (doors.read {r = r} e f)
+
+pub lists-by : {file : List ℕ} {n : ℕ} {out t out′ v t′ : List ℕ} (r : Summary) → roomy out t ≡ true → Texts file n out r out′
+    → v ≡ listing-results r → t′ ≡ put-at t 0 v → Listing file n out t true out′ t′
+lists-by {out = out} {t = t} {v = v} {t′ = t′} r e f g h =
+    let room = both (leb text-room (length out)) (leb listing-size (length t)) e .1 in
+    let z : t′ ≡ front t (listing-results r) = put-start t v (listing-results r) t′ (leb-true _ _ room) g h in
+    rw z (doors.listed {r = r} e f)

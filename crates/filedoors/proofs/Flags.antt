@@ -1,4 +1,4 @@
--- A flag that a run gives has a place in the trace, so its word holds it. Assumes nothing.
+-- A flag that a run or a listing gives has a place in the trace, so its word holds it. Assumes nothing.
 use mathlib.Core.Path.{_≡_, refl}
 use mathlib.Core.Bool.{Bool, true, false}
 use mathlib.Core.List.{List}
@@ -23,6 +23,9 @@ use Rattle.session.specs.Session.{place-of}
 use Rattle.run.specs.declared.Ran.{Ran}
 use Rattle.run.specs.Run as run
 use Rattle.run.specs.Run.{limit-test, buffer-test, traced, run-test, Runs}
+use Rattle.lister.specs.declared.Summary.{Summary}
+use Rattle.lister.specs.Putting.{Texts}
+use Rattle.lister.proofs.Laws.{text-placed}
 use Rattle.figures.specs.Figures.{flag-word}
 use Rattle.figures.proofs.Laws.{none-fits, place-fits}
 
@@ -53,3 +56,12 @@ is-small rows s i o B c trace (flag.At place) h k = place-fits place (omega (ari
 pub ran-small : (rows : List ℕ) (s i o B c : ℕ) (trace out : List ℕ) (r : Ran) (out′ : List ℕ) → Runs rows s i o B c trace out r out′ → flag-word (r .flag) < 2 ^ 64
 ran-small rows s i o B c trace out _ _ (run.refused _) = none-fits
 ran-small rows s i o B c trace out _ _ (run.ran {f} e t) = is-small rows s i o B c trace f (few rows s i o B c trace (length out) e) (t .flag)
+
+pub listed-small : (s : List ℕ) (n : ℕ) (o : List ℕ) (r : Summary) (o′ : List ℕ) → Texts s n o r o′ → flag-word (r .flag) < 2 ^ 64
+listed-small s n o r o′ t = go (r .flag) refl
+  where
+    go : (f : Flag) → r .flag ≡ f → flag-word f < 2 ^ 64
+    go flag.None e = none-fits
+    go (flag.At place) e =
+        let p = text-placed s n o r o′ t in
+        place-fits place (omega (arith, p .few, p .within place e))

@@ -9,6 +9,7 @@ use Rattle.house.specs.declared.answer.Source.{Source}
 use Rattle.house.specs.declared.answer.Source.the-variants.{Rows, Standard}
 use Rattle.house.specs.declared.answer.Contents.{Contents}
 use Rattle.house.specs.declared.answer.Reading.{Reading}
+use Rattle.lister.specs.declared.Summary.{Summary}
 
 -- A run: words 0 to 2 are the number and both places, word 3 is the flag, 0 for none, place + 1 otherwise.
 abbrev pub run-size : ℕ
@@ -32,3 +33,11 @@ contents c = c .states ∷ c .inputs ∷ c .outputs ∷ c .waiting ∷ c .losses
 -- A refused read's are 0.
 abbrev pub read-results : Reading → List ℕ
 read-results r = figures (told-of r) ++ contents (results r)
+
+-- A listing: words 0 to 2 are the number and both places, word 3 is how many bytes the text has, word 4 how many events the file has, word
+-- 5 the flag as in a run. A refused file's words 4 and 5 are 0.
+abbrev pub listing-size : ℕ
+listing-size = 6
+
+abbrev pub listing-results : Summary → List ℕ
+listing-results r = figures (r .told) ++ (r .bytes ∷ r .events ∷ flag-word (r .flag) ∷ [])

@@ -1,11 +1,16 @@
-// Whole traces and whole files for programs in other languages: runs, the reader of house files, and the listing. Numbers and lent slices
-// only. A slice is passed as its address, which may be null where the count is 0, and its count of elements. No slice that is written to
-// lies over another. Nothing else is asked: every function answers every input. A run and the reader answer false exactly when the memory
-// lent for their results is too short, and then nothing is written; a refusal is an answer of true, with its number in the results. The
-// listing has no results, and answers a number. specs/Results.antt says what the results are, and specs/Doors.antt what each function does.
+// Whole traces and whole files for programs in other languages: runs, the reader of house files, and the listing, into memory or from one
+// descriptor to another. Numbers and lent slices only. A slice is passed as its address, which may be null where the count is 0, and its
+// count of elements. No slice that is written to lies over another. Nothing else is asked: every function answers every input. It answers
+// false exactly when the memory lent for its results, or for a listing, is too short, and then nothing is written; a refusal is an answer
+// of true, with its number in the results. The listing to a descriptor has no results, and answers a number. specs/Results.antt says what
+// the results are, and specs/Doors.antt what each function does.
 ghost use mathlib.Core.Path.{_≡_};
+ghost use mathlib.Core.Bool.{_&&_};
 ghost use Prim.Native.Nat.{_≤_};
-ghost use Rattle.filedoors.specs.Doors.{Running, Read, outcome-number};
+ghost use lib.Dec.{leb};
+ghost use Rattle.lister.specs.Putting.{text-room};
+ghost use Rattle.filedoors.specs.Results.{listing-size};
+ghost use Rattle.filedoors.specs.Doors.{Running, Read, Listing, outcome-number};
 use house;
 use lister::Outcome;
 
@@ -58,6 +63,35 @@ pub extern "C" fn rillmoth_read(
     }
     let reading = house::read(file, &mut *rows, &mut *events);
     lent::put_words(&results::of_read(reading), &mut *told, 0);
+    true
+}
+
+// Whether memory of these lengths has room for every listing and for its results.
+fn roomy(out: usize, told: usize) -> bool
+    ensures { λ r. ⌜ r ≡ (leb text-room out && leb listing-size told) ⌝ }
+{
+    if out < lister::LISTING_ROOM {
+        return false;
+    }
+    results::LISTING <= told
+}
+
+// Puts the listing of a house file at the start of `out`. The file has this length; of one that is longer than 7,680 bytes, any start that
+// is longer too will do. `out` has room for every listing, or nothing is put.
+#[no_mangle]
+pub extern "C" fn rillmoth_listing(
+    file: &[u8],
+    length: usize,
+    out: &mut [u8],
+    told: &mut [u64],
+) -> bool
+    ensures { λ r. ⌜ Listing (now (file .entry)) length (now (out .entry)) (now (told .entry)) r (now (out .exit)) (now (told .exit)) ⌝ }
+{
+    if !roomy(out.len(), told.len()) {
+        return false;
+    }
+    let summary = lister::text(file, length, &mut *out);
+    lent::put_words(&results::of_listing(summary), &mut *told, 0);
     true
 }
 

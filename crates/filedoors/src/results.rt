@@ -4,17 +4,20 @@ ghost use Prim.Native.Nat.{_^_, _<_};
 ghost use Rattle.table.specs.Refusals.{told-at};
 ghost use Rattle.house.specs.Refusals.{told-of, results};
 ghost use Rattle.figures.specs.Figures.{flag-word};
-ghost use Rattle.filedoors.specs.Results.{run-results, source-number, read-results};
+ghost use Rattle.filedoors.specs.Results.{run-results, source-number, read-results, listing-results};
 use house::Contents;
 use house::Reading;
 use house::Source;
+use lister::Summary;
 use run::Ran;
 use table::Told;
 
-// How many words the results of a run and of a read are.
+// How many words the results of a run, of a read and of a listing are.
 pub(crate) const RUN: usize = 4;
 
 pub(crate) const READ: usize = 11;
+
+pub(crate) const LISTING: usize = 6;
 
 // What is not refused has number 0, and places 0.
 fn nothing() -> Told
@@ -98,5 +101,23 @@ pub(crate) fn of_read(reading: Reading) -> [u64; 11]
         source,
         c.rows as u64,
         c.events as u64,
+    ]
+}
+
+// The results of a listing.
+pub(crate) fn of_listing(summary: Summary) -> [u64; 6]
+    requires { ⌜ flag-word (summary .flag) < 2 ^ 64 ⌝ }
+    ensures { λ r. ⌜ r ≡ listing-results summary ⌝ }
+{
+    let t = summary.told;
+    let flag = summary.flag;
+    let f = figures::flag_word(flag);
+    [
+        t.number as u64,
+        t.place as u64,
+        t.second as u64,
+        summary.bytes as u64,
+        summary.events as u64,
+        f,
     ]
 }
