@@ -1,5 +1,5 @@
 -- The pieces of a listing in memory, one after another, and what is told with them. Assumes nothing.
-use mathlib.Core.Path.{_≡_, refl, sym, _∙_, ap}
+use mathlib.Core.Path.{_≡_, sym, _∙_, ap}
 use mathlib.Core.Bool.{true}
 use mathlib.Core.List.{List, _++_}
 use Prim.Native.Nat.{ℕ, _+_, _≤_, min}
@@ -16,7 +16,6 @@ use Rattle.lines.specs.declared.text.Text.{Text}
 use Rattle.lister.specs.Judging.{Judges}
 use Rattle.lister.specs.Listing.{event-room, result-room, joined, listing-of, piece-of, pieces-of, events-in, Leaves}
 use Rattle.lister.specs.Putting.{most-pieces, text-room, refusal-told, flag-told, Puts, Texts, put}
-use Rattle.lister.specs.declared.Summary.{Summary}
 use Rattle.lister.specs.declared.judge.Judged.{Judged}
 use Rattle.lister.specs.declared.judge.Judged.the-variants.{Refused, Ran as Listed}
 use Rattle.lister.proofs.Joined.{joined-more, pieces-joined}

@@ -2,11 +2,11 @@
 use mathlib.Core.Path.{_≡_, refl, sym, _∙_, ap}
 use mathlib.Core.List.{List}
 use mathlib.Core.Logic.{_↔_}
-use Prim.Native.Nat.{ℕ, _≤_, _<_}
+use Prim.Native.Nat.{ℕ, _<_}
 use native.Mathlib.Decide.{decLe}
 use native.Mathlib.Omega.{arith}
 use lib.ListN.{length, length-append}
-use borrow.Author.Tests.{ne-eqb, leb-true, leb-false, lt-leb}
+use borrow.Author.Tests.{ne-eqb, leb-true, leb-false}
 use Rattle.lent.specs.Lent.{front}
 use Rattle.lent.proofs.Laws.{front-stands}
 use Rattle.model.proofs.Bytes.{events-length}
@@ -68,7 +68,8 @@ flag-within s o o′ (flag.At k) w place e =
     let same : k ≡ place = cc in
     omega (arith, same, w .flag .0, events-length (events-of s))
 
-placed : {s e o : List ℕ} {j : Judged} {e′ o′ : List ℕ} → Judges s e o j e′ o′ → (place : ℕ) → flag-told j ≡ flag.At place → place < events-in j
+placed : {s e o : List ℕ} {j : Judged} {e′ o′ : List ℕ} → Judges s e o j e′ o′ → (place : ℕ) → flag-told j ≡ flag.At place
+    → place < events-in j
 placed (refused v) place e = absurd (let z : _≡_ {A = ℕ} 0 1 = cc in omega arith)
 placed (cramped v l) place e = absurd (let z : _≡_ {A = ℕ} 0 1 = cc in omega arith)
 placed {s} {o} {o′} (listed {f} v l w) place e = flag-within s o o′ f w place e

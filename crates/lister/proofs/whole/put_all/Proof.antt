@@ -1,6 +1,6 @@
 -- `whole::put_all` meets its contract: the pieces passed stand at the start. Assumes nothing.
 use mathlib.Core.Path.{_≡_, refl, sym, ap, _∙_}
-use Prim.Native.Nat.{_+_, _-_, _*_, _≤_}
+use Prim.Native.Nat.{_-_, _*_, _≤_}
 use native.Mathlib.Omega.{arith}
 use lib.ListN.{length}
 use borrow.Author.Needs.{needs}
@@ -14,8 +14,8 @@ use Rattle.lister.proofs.whole.put_all.Tie as tie
 
 abbrev Inv-loop : tie.InvT-loop
 Inv-loop n judged size events results out₀ at₀ k₀ out at k =
-    (k ≤ n) × (at ≡ length (joined (piece-of judged size events results) k)) × (out ≡ front out₀ (joined (piece-of judged size events results) k))
-    × (length out ≡ length out₀) × (at ≤ most-text * k)
+    (k ≤ n) × (at ≡ length (joined (piece-of judged size events results) k))
+    × (out ≡ front out₀ (joined (piece-of judged size events results) k)) × (length out ≡ length out₀) × (at ≤ most-text * k)
 
 abbrev μ-loop : tie.MeasureT-loop
 μ-loop n judged size events results out₀ at₀ k₀ out at k = n - k
@@ -44,7 +44,8 @@ add-at c =
     let l = p .before .before in
     let start = l .before .before .before .before in
     let a = start .args in
-    let (all, few) = used-all (piece-of (a .judged) (a .length) (a .events .now) (a .results .now) (l .loop .k)) (p .piece .ensures .0) (p .piece .ensures .1) in
+    let text = piece-of (a .judged) (a .length) (a .events .now) (a .results .now) in
+    let (all, few) = used-all (text (l .loop .k)) (p .piece .ensures .0) (p .piece .ensures .1) in
     omega (arith, l .loop .inv .4, few, p .before .loop-test .taken, start .pre .0)
 
 add-k : tie.Need-add-k Inv-loop μ-loop

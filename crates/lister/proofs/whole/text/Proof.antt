@@ -63,8 +63,8 @@ returns-2 c =
     let counted = put .before .before .before .before in
     let judged = counted .before .before .before in
     let rooms = judged .before .before .before in
-    texts-by (rooms .before .event-room .ensures) (rooms .result-room .ensures) (judged .judge .ensures) (le-leb _ _ (rooms .before .before .if1 .left))
-    (counted .pieces .ensures) (put .put-all .ensures) (c .before .before .refusal .ensures) (c .before .events4 .ensures) (c .flag .ensures)
+    texts-by (rooms .before .event-room .ensures) (rooms .result-room .ensures) (judged .judge .ensures)
+    (le-leb _ _ (rooms .before .before .if1 .left)) (counted .pieces .ensures) (put .put-all .ensures) (c .before .before .refusal .ensures) (c .before .events4 .ensures) (c .flag .ensures)
 
 pub text-spec : {M : Type 1} → statement M
 text-spec =
