@@ -7,7 +7,7 @@ use rillmoth::{MOST_EVENTS, MOST_FILE_BYTES};
 use crate::input;
 use crate::rebound::deliver;
 use crate::rules::Rules;
-use crate::status::{Status, FAILED, REFUSED};
+use crate::status::Status;
 use crate::tell;
 use crate::words::Words;
 
@@ -26,17 +26,13 @@ pub fn import(words: &Words, status: &mut Status) -> Result<(), String> {
     let (bytes, mut events, mut file) = match rooms(capture) {
         Ok(rooms) => rooms,
         Err(error) => {
-            tell::failed(&called, "read", &error);
-            status.add(FAILED);
+            tell::failed(&called, "read", &error, status);
             return Ok(());
         }
     };
     match rules.with(&bytes, &mut events, &mut file) {
         Ok(length) => deliver(new, &file[..length], status),
-        Err((refusal, of)) => {
-            tell::refused(&called, &refusal, of);
-            status.add(REFUSED);
-        }
+        Err((refusal, of)) => tell::refused(&called, &refusal, of, status),
     }
     Ok(())
 }

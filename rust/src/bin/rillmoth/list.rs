@@ -4,13 +4,13 @@ use std::ffi::OsStr;
 use std::io::{self, ErrorKind};
 use std::os::unix::ffi::OsStrExt;
 
-use rillmoth::{Refusal, MOST_EVENTS, MOST_FILE_BYTES, MOST_LISTING_BYTES};
+use rillmoth::{MOST_EVENTS, MOST_FILE_BYTES, MOST_LISTING_BYTES};
 
 use crate::input::{self, Input};
 use crate::output;
 use crate::refusals::Of;
 use crate::rules::Rules;
-use crate::status::{Status, FAILED, FLAGGED, REFUSED};
+use crate::status::{Status, FLAGGED};
 use crate::tell;
 use crate::words::Words;
 
@@ -36,11 +36,9 @@ impl Rooms {
     }
 }
 
-/// Why nothing is listed of a file.
+/// Why nothing can be said of a file.
 enum Turned {
     Unread(io::Error),
-    /// It was told.
-    Refused,
     Unprinted(io::Error),
 }
 
@@ -70,8 +68,7 @@ pub fn list(words: &Words, status: &mut Status) -> Result<(), String> {
     let mut rooms = match Rooms::new(rules.is_some()) {
         Ok(rooms) => rooms,
         Err(error) => {
-            tell::failed("memory", "had", &error);
-            status.add(FAILED);
+            tell::failed("memory", "had", &error, status);
             return Ok(());
         }
     };
@@ -79,15 +76,10 @@ pub fn list(words: &Words, status: &mut Status) -> Result<(), String> {
     for name in names {
         match listing.one(name, &mut rooms, status) {
             Ok(()) => {}
-            Err(Turned::Unread(error)) => {
-                tell::failed(&tell::called(name, "standard input"), "read", &error);
-                status.add(FAILED);
-            }
-            Err(Turned::Refused) => status.add(REFUSED),
+            Err(Turned::Unread(error)) => tell::failed(&tell::called(name, "standard input"), "read", &error, status),
             // Nobody would see what is to come.
             Err(Turned::Unprinted(error)) => {
-                tell::unprinted(&error);
-                status.add(FAILED);
+                tell::unprinted(&error, status);
                 break;
             }
         }
@@ -112,38 +104,36 @@ impl Listing<'_> {
                 let capture = input::capture(name).map_err(Turned::Unread)?;
                 match rules.with(&capture, events, file) {
                     Ok(length) => (&file[..length], length),
-                    Err((refusal, of)) => return self.refused(&called, refusal, of),
+                    Err((refusal, of)) => {
+                        tell::refused(&called, &refusal, of, status);
+                        return if self.summary { line(&called, &refusal.to_string()) } else { Ok(()) };
+                    }
                 }
             }
         };
         let listing = rillmoth::listing(bytes, length, text);
+        match listing.verdict {
+            Ok(None) => {}
+            Ok(Some(_)) => status.add(FLAGGED),
+            Err(refusal) => tell::refused(&called, &refusal, Of::File, status),
+        }
         if !self.summary {
-            print(listing.text)?;
+            return print(listing.text);
         }
         match listing.verdict {
-            Ok(None) => self.line(&called, &format!("consistent, {}", counted(listing.events))),
+            Ok(None) => line(&called, &format!("consistent, {}", counted(listing.events))),
             Ok(Some(place)) => {
-                status.add(FLAGGED);
                 let seen = seen(bytes, place);
-                self.line(&called, &format!("flagged at event {place}{seen}, of {}", counted(listing.events)))
+                line(&called, &format!("flagged at event {place}{seen}, of {}", counted(listing.events)))
             }
-            Err(refusal) => self.refused(&called, refusal, Of::File),
+            Err(refusal) => line(&called, &refusal.to_string()),
         }
     }
+}
 
-    fn refused(&self, called: &str, refusal: Refusal, of: Of) -> Result<(), Turned> {
-        tell::refused(called, &refusal, of);
-        self.line(called, &refusal.to_string())?;
-        Err(Turned::Refused)
-    }
-
-    /// The line of a summary.
-    fn line(&self, called: &str, what: &str) -> Result<(), Turned> {
-        if self.summary {
-            print(format!("{called}: {what}\n").as_bytes())?;
-        }
-        Ok(())
-    }
+/// The line of a summary.
+fn line(called: &str, what: &str) -> Result<(), Turned> {
+    print(format!("{called}: {what}\n").as_bytes())
 }
 
 fn print(bytes: &[u8]) -> Result<(), Turned> {

@@ -4,6 +4,7 @@
 #![deny(unsafe_code)]
 
 mod help;
+mod house;
 mod import;
 mod input;
 mod list;
@@ -21,7 +22,7 @@ use std::ffi::OsString;
 use std::process::ExitCode;
 
 use help::Page;
-use status::{Status, FAILED, USAGE};
+use status::{Status, USAGE};
 use words::{Known, Words};
 
 const HELP: Known = Known { names: &["--help", "-h"], word: false };
@@ -94,8 +95,7 @@ fn explain(words: &Words, status: &mut Status) -> Result<(), String> {
 
 fn print(text: &str, status: &mut Status) {
     if let Err(error) = output::print(text.as_bytes()) {
-        tell::unprinted(&error);
-        status.add(FAILED);
+        tell::unprinted(&error, status);
     }
 }
 

@@ -8,7 +8,7 @@ use rillmoth::{Bounds, House, Refusal, Source, MOST_FILE_BYTES};
 use crate::input::{self, Input};
 use crate::output;
 use crate::refusals::Of;
-use crate::status::{Status, FAILED, REFUSED};
+use crate::status::Status;
 use crate::tell;
 use crate::words::{number, Words};
 
@@ -26,14 +26,8 @@ pub fn rebound(words: &Words, status: &mut Status) -> Result<(), String> {
     };
     match make(name, Bounds { waiting, losses }, words.has("--mend")) {
         Ok(Ok(file)) => deliver(new, &file, status),
-        Ok(Err(refusal)) => {
-            tell::refused(&tell::called(name, "standard input"), &refusal, Of::Rebound);
-            status.add(REFUSED);
-        }
-        Err(error) => {
-            tell::failed(&tell::called(name, "standard input"), "read", &error);
-            status.add(FAILED);
-        }
+        Ok(Err(refusal)) => tell::refused(&tell::called(name, "standard input"), &refusal, Of::Rebound, status),
+        Err(error) => tell::failed(&tell::called(name, "standard input"), "read", &error, status),
     }
     Ok(())
 }
@@ -42,14 +36,8 @@ pub fn rebound(words: &Words, status: &mut Status) -> Result<(), String> {
 pub fn deliver(name: &OsStr, file: &[u8], status: &mut Status) {
     match output::write(name, file) {
         Ok(()) => {}
-        Err(error) if name == "-" => {
-            tell::unprinted(&error);
-            status.add(FAILED);
-        }
-        Err(error) => {
-            tell::failed(&tell::called(name, "standard output"), "written", &error);
-            status.add(FAILED);
-        }
+        Err(error) if name == "-" => tell::unprinted(&error, status),
+        Err(error) => tell::failed(&name.to_string_lossy(), "written", &error, status),
     }
 }
 

@@ -2,12 +2,11 @@
 
 use std::ffi::OsStr;
 
-use rillmoth::{House, Refusal};
+use rillmoth::Refusal;
 
-use crate::input;
+use crate::house;
 use crate::refusals::Of;
-use crate::status::{Status, FAILED, REFUSED};
-use crate::tell;
+use crate::status::Status;
 
 /// A good house file.
 pub struct Rules {
@@ -15,25 +14,10 @@ pub struct Rules {
 }
 
 impl Rules {
-    /// Reads it; none, where it cannot be read or is refused, which is then told.
+    /// Reads it; none, where it is no good one, which is then told.
     pub fn read(name: &OsStr, status: &mut Status) -> Option<Rules> {
-        let called = tell::called(name, "standard input");
-        let input = match input::house(name) {
-            Ok(input) => input,
-            Err(error) => {
-                tell::failed(&called, "read", &error);
-                status.add(FAILED);
-                return None;
-            }
-        };
-        match House::read(&input.bytes) {
-            Ok(_) => Some(Rules { file: input.bytes }),
-            Err(refusal) => {
-                tell::refused(&called, &input.told(refusal), Of::File);
-                status.add(REFUSED);
-                None
-            }
-        }
+        let (input, _) = house::read(name, status)?;
+        Some(Rules { file: input.bytes })
     }
 
     /// The house file with these rules and the events of a capture, to the start of `file`: how long it is, or what is refused.

@@ -5,10 +5,9 @@ use std::fmt::Write;
 
 use rillmoth::{House, Source, NOT_ALLOWED};
 
-use crate::input;
+use crate::house;
 use crate::output;
-use crate::refusals::Of;
-use crate::status::{Status, FAILED, REFUSED};
+use crate::status::Status;
 use crate::tell;
 use crate::words::Words;
 
@@ -18,25 +17,9 @@ pub fn show(words: &Words, status: &mut Status) -> Result<(), String> {
         [name] => name,
         _ => return Err(String::from("it shows one file")),
     };
-    let called = tell::called(name, "standard input");
-    let input = match input::house(name) {
-        Ok(input) => input,
-        Err(error) => {
-            tell::failed(&called, "read", &error);
-            status.add(FAILED);
-            return Ok(());
-        }
-    };
-    match House::read(&input.bytes) {
-        Ok(house) => {
-            if let Err(error) = output::print(in_words(&house).as_bytes()) {
-                tell::unprinted(&error);
-                status.add(FAILED);
-            }
-        }
-        Err(refusal) => {
-            tell::refused(&called, &input.told(refusal), Of::File);
-            status.add(REFUSED);
+    if let Some((_, house)) = house::read(name, status) {
+        if let Err(error) = output::print(in_words(&house).as_bytes()) {
+            tell::unprinted(&error, status);
         }
     }
     Ok(())

@@ -1,4 +1,4 @@
-//! What is said on standard error. Where that cannot be written, nothing more can be said.
+//! What is said on standard error, and counts in the exit status. Where it cannot be written, nothing more can be said.
 
 use std::ffi::OsStr;
 use std::io::{self, ErrorKind, Write};
@@ -6,6 +6,7 @@ use std::io::{self, ErrorKind, Write};
 use rillmoth::Refusal;
 
 use crate::refusals::{advice, Of};
+use crate::status::{Status, FAILED, REFUSED};
 
 pub fn say(text: &str) {
     let _ = writeln!(io::stderr(), "rillmoth: {text}");
@@ -21,23 +22,23 @@ pub fn called(name: &OsStr, stream: &str) -> String {
 }
 
 /// What is wrong, where, what to do, and where to read on.
-pub fn refused(name: &str, refusal: &Refusal, of: Of) {
-    say(&format!(
-        "{name}: {refusal}\n  {}\n  More: rillmoth help {}, or docs/REFUSALS.md",
-        advice(refusal, of),
-        refusal.number()
-    ));
+pub fn refused(name: &str, refusal: &Refusal, of: Of, status: &mut Status) {
+    let (what, number) = (advice(refusal, of), refusal.number());
+    say(&format!("{name}: {refusal}\n  {what}\n  More: rillmoth help {number}, or docs/REFUSALS.md"));
+    status.add(REFUSED);
 }
 
 /// An error of the system.
-pub fn failed(name: &str, what: &str, error: &io::Error) {
+pub fn failed(name: &str, what: &str, error: &io::Error, status: &mut Status) {
     say(&format!("{name}: could not be {what}: {}", plain(error)));
+    status.add(FAILED);
 }
 
 /// Text that could not go to standard output. A pipe whose reader has gone is no fault that anybody need be told of.
-pub fn unprinted(error: &io::Error) {
-    if error.kind() != ErrorKind::BrokenPipe {
-        failed("standard output", "written", error);
+pub fn unprinted(error: &io::Error, status: &mut Status) {
+    match error.kind() {
+        ErrorKind::BrokenPipe => status.add(FAILED),
+        _ => failed("standard output", "written", error, status),
     }
 }
 
