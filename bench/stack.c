@@ -1,7 +1,7 @@
 // How much stack the functions of the proved library take: the stack below each call is first filled with one byte; the first byte from
 // the far end that is another one afterwards tells how deep the call went. Prints a markdown table.
 //
-//   stack FILE    FILE is a house file, which is listed
+//   stack FILE    FILE is a house file of 4,096 events, which is read, listed, and made into others
 //
 // Have the C library bound before it starts (link with -z now, or set LD_BIND_NOW): a function that is bound at its first call takes stack
 // of its own then. The C library is declared here and not by its headers, so that the kit's compiler needs nothing else to build this.
@@ -24,17 +24,22 @@ _Bool rillmoth_run(const u8 *rows, size_t rows_len, size_t states, size_t inputs
                    const u8 *trace, size_t trace_len, u8 *out, size_t out_len, u64 *told, size_t told_len);
 _Bool rillmoth_read(const u8 *file, size_t file_len, u8 *rows, size_t rows_len, u8 *events, size_t events_len, u64 *told,
                     size_t told_len);
+_Bool rillmoth_rebind(const u8 *file, size_t file_len, size_t waiting, size_t losses, u8 *out, size_t out_len, u64 *told, size_t told_len);
+_Bool rillmoth_retrace(const u8 *file, size_t file_len, const u8 *trace, size_t trace_len, u8 *out, size_t out_len, u64 *told,
+                       size_t told_len);
+_Bool rillmoth_mend(const u8 *file, size_t file_len, u8 *out, size_t out_len, u64 *told, size_t told_len);
+_Bool rillmoth_listing(const u8 *file, size_t file_len, size_t length, u8 *text, size_t text_len, u64 *told, size_t told_len);
 u8 rillmoth_list(int input, int output);
 
 // The bytes below the caller's frame that are not painted are its own.
 enum { STACK = 1 << 18, PAINT = 0xA5, KEPT = 128 };
-enum { WORDS = 267, BYTES = 2085, STATES = 64, SYMBOLS = 16, EVENTS = 4096, FILE_ROOM = 7681 };
+enum { WORDS = 267, BYTES = 2085, STATES = 64, SYMBOLS = 16, EVENTS = 4096, FILE_ROOM = 7681, TEXT_ROOM = 393408 };
 enum { TO_READ = 0, TO_WRITE = 1, FROM_START = 0 };
 
 // What is measured lies outside the stack.
 static u64 words[WORDS], told[11];
 static u8 bytes[BYTES], rows[STATES * 2 * SYMBOLS], trace[EVENTS], out[12 * EVENTS];
-static u8 file[FILE_ROOM], file_rows[2048], file_events[EVENTS];
+static u8 file[FILE_ROOM], file_rows[2048], file_events[EVENTS], made[FILE_ROOM], text[TEXT_ROOM];
 static size_t file_len;
 static int file_in, nowhere;
 
@@ -47,6 +52,10 @@ static void do_run(void) {
     rillmoth_run(rows, sizeof rows, STATES, SYMBOLS, SYMBOLS, 32, 8, trace, EVENTS, out, sizeof out, told, 4);
 }
 static void do_read(void) { rillmoth_read(file, file_len, file_rows, sizeof file_rows, file_events, EVENTS, told, 11); }
+static void do_rebind(void) { rillmoth_rebind(file, file_len, 32, 8, made, sizeof made, told, 4); }
+static void do_retrace(void) { rillmoth_retrace(file, file_len, file_events, EVENTS, made, sizeof made, told, 4); }
+static void do_mend(void) { rillmoth_mend(file, file_len, made, sizeof made, told, 4); }
+static void do_listing(void) { rillmoth_listing(file, file_len, file_len, text, sizeof text, told, 6); }
 static void do_list(void) { rillmoth_list(file_in, nowhere); }
 
 // A stack grows as it is used, and some systems let nobody write far below its end: so it is used as far as will be painted.
@@ -100,7 +109,15 @@ int main(int count, char **names) {
     tell("run, 4,096 events", do_run);
     must(told[0] == 0, "the run was refused");
     tell("read, this house file", do_read);
-    must(told[0] == 0, "the house file was refused");
+    must(told[0] == 0 && told[10] == EVENTS, "the house file was refused, or has fewer events than there may be");
+    tell("rebind, this house file", do_rebind);
+    must(told[0] == 0 && told[3] == file_len, "other bounds were refused");
+    tell("retrace, this house file", do_retrace);
+    must(told[0] == 0 && told[3] == file_len, "its own trace was refused");
+    tell("mend, this house file", do_mend);
+    must(told[0] == 0 && told[3] == file_len, "the house file was not mended");
+    tell("listing, this house file", do_listing);
+    must(told[0] == 0 && told[4] == EVENTS, "the house file was not listed");
     tell("list, this house file", do_list);
     return 0;
 }

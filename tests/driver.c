@@ -22,10 +22,16 @@
 //            answer: 4 results, out_len bytes; where the file is refused the first 3 are the reader's, and the last is 0
 //  10 standard out_len
 //            answer: 1 or 0, as the function answers true or false, out_len bytes
+//  11 rebind file_len, file, waiting losses out_len results_len
+//  12 retrace file_len, file, trace_len, trace, out_len results_len
+//  13 mend   file_len, file, out_len results_len
+//  14 listing file_len, file, length text_len results_len
+//            answer of these: 1 or 0, as the function answers true or false, results_len words, and how many bytes there are of out, or of
+//            the text, up to the last that is not as it was before, and these bytes
 // Other memory that a function is to write to holds the byte 0xAA throughout before, so that what was left alone can be told.
 //
 // Input that ends inside a request ends the program with status 1; a request that is none of these, a length above 64 MiB, memory that
-// is refused, or an answer of false to another request than 10, with status 2. Memory of no length is lent at a null address.
+// is refused, or an answer of false to a request before 10, with status 2. Memory of no length is lent at a null address.
 //
 // The C library is declared here and not by its headers, so that the kit's compiler needs nothing else to build this.
 
@@ -42,6 +48,7 @@ void *malloc(size_t count);
 void free(void *memory);
 void *memcpy(void *to, const void *from, size_t count);
 void *memset(void *to, int byte, size_t count);
+int memcmp(const void *one, const void *other, size_t count);
 _Noreturn void _exit(int status);
 
 // A slice is passed as its address and its count of elements.
@@ -57,6 +64,11 @@ _Bool rillmoth_hand(const u8 *capture, size_t capture_len, size_t place, u64 *to
 _Bool rillmoth_write(size_t source, const u8 *rows, size_t rows_len, size_t states, size_t inputs, size_t outputs, size_t waiting,
                      size_t losses, const u8 *trace, size_t trace_len, u8 *out, size_t out_len, u64 *told, size_t told_len);
 _Bool rillmoth_standard(u8 *rows, size_t rows_len);
+_Bool rillmoth_rebind(const u8 *file, size_t file_len, size_t waiting, size_t losses, u8 *out, size_t out_len, u64 *told, size_t told_len);
+_Bool rillmoth_retrace(const u8 *file, size_t file_len, const u8 *trace, size_t trace_len, u8 *out, size_t out_len, u64 *told,
+                       size_t told_len);
+_Bool rillmoth_mend(const u8 *file, size_t file_len, u8 *out, size_t out_len, u64 *told, size_t told_len);
+_Bool rillmoth_listing(const u8 *file, size_t file_len, size_t length, u8 *text, size_t text_len, u64 *told, size_t told_len);
 
 enum { WORDS = 267, BYTES = 2085, TEST_RESULTS = 3, RUN_RESULTS = 4, READ_RESULTS = 11 };
 enum { IMPORT_RESULTS = 4, HAND_RESULTS = 6, WRITE_RESULTS = 4, UNTOUCHED = 0xAA };
@@ -292,12 +304,80 @@ static void standard(void) {
     free(out.at);
 }
 
+// What is lent for a file or a text, and for results.
+struct lent {
+    struct bytes out, told;
+};
+
+static struct lent lent(void) {
+    struct lent l;
+    l.out = untouched(number());
+    u64 count = number();
+    if (count > MOST / sizeof(u64)) end(BAD_REQUEST);
+    l.told = untouched(count * sizeof(u64));
+    return l;
+}
+
+static u64 *words_of(struct lent l) { return (u64 *)l.told.at; }
+static size_t count_of(struct lent l) { return l.told.count / sizeof(u64); }
+
+// Where the bytes begin that are as they were, to the end. A text has much room, so most of it is looked at in pieces.
+static u64 end_of(struct bytes b) {
+    static u8 same[4096];
+    size_t end = b.count;
+    memset(same, UNTOUCHED, sizeof same);
+    while (end >= sizeof same && memcmp(b.at + end - sizeof same, same, sizeof same) == 0) end -= sizeof same;
+    while (end > 0 && b.at[end - 1] == UNTOUCHED) end--;
+    return end;
+}
+
+static void give_left(_Bool answer, struct lent l) {
+    u64 answered = answer, count = end_of(l.out);
+    give(&answered, sizeof answered);
+    give(l.told.at, l.told.count);
+    give(&count, sizeof count);
+    give(l.out.at, count);
+    free(l.out.at), free(l.told.at);
+}
+
+static void rebind(void) {
+    struct bytes file = taken();
+    u64 waiting = number(), losses = number();
+    struct lent l = lent();
+    give_left(rillmoth_rebind(file.at, file.count, waiting, losses, l.out.at, l.out.count, words_of(l), count_of(l)), l);
+    free(file.at);
+}
+
+static void retrace(void) {
+    struct bytes file = taken(), trace = taken();
+    struct lent l = lent();
+    give_left(rillmoth_retrace(file.at, file.count, trace.at, trace.count, l.out.at, l.out.count, words_of(l), count_of(l)), l);
+    free(file.at), free(trace.at);
+}
+
+static void mend(void) {
+    struct bytes file = taken();
+    struct lent l = lent();
+    give_left(rillmoth_mend(file.at, file.count, l.out.at, l.out.count, words_of(l), count_of(l)), l);
+    free(file.at);
+}
+
+static void listing(void) {
+    struct bytes file = taken();
+    u64 length = number();
+    struct lent l = lent();
+    give_left(rillmoth_listing(file.at, file.count, length, l.out.at, l.out.count, words_of(l), count_of(l)), l);
+    free(file.at);
+}
+
 // With no memory at all, at null, every function that has results or rows to give answers false, and the driver serves nothing else.
 static void nothing(void) {
     _Bool any = rillmoth_open(0, 0, 2, 1, 2, 2, 1, 0, 0, 0, 0, 0, 0) || rillmoth_feed(0, 0, 0, 0, 0, 0, 0) ||
                 rillmoth_run(0, 0, 2, 1, 2, 2, 1, 0, 0, 0, 0, 0, 0) || rillmoth_read(0, 0, 0, 0, 0, 0, 0, 0) ||
                 rillmoth_import(0, 0, 0, 0, 0, 0) || rillmoth_hand(0, 0, 0, 0, 0) ||
-                rillmoth_write(1, 0, 0, 64, 16, 16, 2, 1, 0, 0, 0, 0, 0, 0) || rillmoth_standard(0, 0);
+                rillmoth_write(1, 0, 0, 64, 16, 16, 2, 1, 0, 0, 0, 0, 0, 0) || rillmoth_standard(0, 0) ||
+                rillmoth_rebind(0, 0, 2, 1, 0, 0, 0, 0) || rillmoth_retrace(0, 0, 0, 0, 0, 0, 0, 0) ||
+                rillmoth_mend(0, 0, 0, 0, 0, 0) || rillmoth_listing(0, 0, 0, 0, 0, 0, 0);
     if (any) end(BAD_REQUEST);
 }
 
@@ -315,6 +395,10 @@ int main(void) {
             case 8: write_house(); break;
             case 9: again(); break;
             case 10: standard(); break;
+            case 11: rebind(); break;
+            case 12: retrace(); break;
+            case 13: mend(); break;
+            case 14: listing(); break;
             default: end(BAD_REQUEST);
         }
     }

@@ -56,6 +56,7 @@ static void give_back(struct memory *m) {
 /* Table T: a poll, a report, a blank. */
 static const uint8_t rows[] = {1, RILLMOTH_NOT_ALLOWED, RILLMOTH_NOT_ALLOWED, RILLMOTH_NOT_ALLOWED, 0, 0};
 static const uint8_t trace[] = {0, RILLMOTH_OUTPUT, 0};
+static const uint8_t other[] = {0, RILLMOTH_OUTPUT, 0, RILLMOTH_OUTPUT + 1, RILLMOTH_OUTPUT};
 static const uint8_t capture[] = {0xd4, 0xc3, 0xb2, 0xa1, 2, 0, 4, 0, 0, 0, 0, 0, 0, 0, 0, 0, 0, 0, 4, 0, 147, 0, 0, 0, /* one record */
                                   0,    0,    0,    0,    0, 0, 0, 0, 1, 0, 0, 0, 1, 0, 0, 0, 5};
 static uint8_t file[MOST];
@@ -93,6 +94,24 @@ static bool hand_in(struct memory *m) {
 
 static bool standard_in(struct memory *m) { return rillmoth_standard(m->out, m->out_count); }
 
+static bool rebind_in(struct memory *m) {
+    return rillmoth_rebind(file, file_count, 3, 1, m->out, m->out_count, m->results, m->results_count);
+}
+
+static bool retrace_in(struct memory *m) {
+    return rillmoth_retrace(file, file_count, other, sizeof other, m->out, m->out_count, m->results, m->results_count);
+}
+
+static bool mend_in(struct memory *m) {
+    return rillmoth_mend(file, file_count, m->out, m->out_count, m->results, m->results_count);
+}
+
+static bool list_in(struct memory *m, const uint8_t *at, size_t count, size_t length) {
+    return rillmoth_listing(at, count, length, m->out, m->out_count, m->results, m->results_count);
+}
+
+static bool listing_in(struct memory *m) { return list_in(m, file, file_count, file_count); }
+
 /* Each function, with what it needs; 0 where it needs none. */
 static const struct {
     const char *name;
@@ -108,6 +127,10 @@ static const struct {
     {"rillmoth_import", import_in, 0, 0, RILLMOTH_IMPORT_RESULTS, 1, false},
     {"rillmoth_hand", hand_in, 0, 0, RILLMOTH_HAND_RESULTS, 0, false},
     {"rillmoth_standard", standard_in, 0, 0, 0, RILLMOTH_MOST_ROW_BYTES, true},
+    {"rillmoth_rebind", rebind_in, 0, 0, RILLMOTH_WRITE_RESULTS, FILE_BYTES, false},
+    {"rillmoth_retrace", retrace_in, 0, 0, RILLMOTH_WRITE_RESULTS, FILE_BYTES, false},
+    {"rillmoth_mend", mend_in, 0, 0, RILLMOTH_WRITE_RESULTS, FILE_BYTES, false},
+    {"rillmoth_listing", listing_in, 0, 0, RILLMOTH_LISTING_RESULTS, RILLMOTH_LISTING_BYTES, true},
 };
 
 /* One call with memory of these lengths, which is to be answered so. */
@@ -163,6 +186,20 @@ static bool hand_of(const struct slice *s) { return rillmoth_hand(s[0].at, s[0].
 
 static bool standard_of(const struct slice *s) { return rillmoth_standard(s[0].at, s[0].count); }
 
+static bool rebind_of(const struct slice *s) {
+    return rillmoth_rebind(s[0].at, s[0].count, 3, 1, s[1].at, s[1].count, s[2].at, s[2].count);
+}
+
+static bool retrace_of(const struct slice *s) {
+    return rillmoth_retrace(s[0].at, s[0].count, s[1].at, s[1].count, s[2].at, s[2].count, s[3].at, s[3].count);
+}
+
+static bool mend_of(const struct slice *s) { return rillmoth_mend(s[0].at, s[0].count, s[1].at, s[1].count, s[2].at, s[2].count); }
+
+static bool listing_of(const struct slice *s) {
+    return rillmoth_listing(s[0].at, s[0].count, s[0].count, s[1].at, s[1].count, s[2].at, s[2].count);
+}
+
 enum { MOST_SLICES = 4 };
 
 /* Each function, and of each of its slices what lies there before, untouched memory where nothing is named; how many elements, how long
@@ -211,6 +248,21 @@ static const struct {
      {{capture, sizeof capture, 1, false}, {NULL, 1, 1, false}, {NULL, RILLMOTH_IMPORT_RESULTS, 8, true}}},
     {"rillmoth_hand", hand_of, {{capture, sizeof capture, 1, false}, {NULL, RILLMOTH_HAND_RESULTS, 8, true}}},
     {"rillmoth_standard", standard_of, {{NULL, RILLMOTH_MOST_ROW_BYTES, 1, true}}},
+    {"rillmoth_rebind",
+     rebind_of,
+     {{file, FILE_BYTES, 1, false}, {NULL, FILE_BYTES, 1, false}, {NULL, RILLMOTH_WRITE_RESULTS, 8, true}}},
+    {"rillmoth_retrace",
+     retrace_of,
+     {{file, FILE_BYTES, 1, false},
+      {other, sizeof other, 1, false},
+      {NULL, FILE_BYTES, 1, false},
+      {NULL, RILLMOTH_WRITE_RESULTS, 8, true}}},
+    {"rillmoth_mend",
+     mend_of,
+     {{file, FILE_BYTES, 1, false}, {NULL, FILE_BYTES, 1, false}, {NULL, RILLMOTH_WRITE_RESULTS, 8, true}}},
+    {"rillmoth_listing",
+     listing_of,
+     {{file, FILE_BYTES, 1, false}, {NULL, RILLMOTH_LISTING_BYTES, 1, true}, {NULL, RILLMOTH_LISTING_RESULTS, 8, true}}},
 };
 
 /* One function with these of its slices empty, a bit each: at null it answers and leaves what it does at another address, and it answers
@@ -244,6 +296,102 @@ static void try_empty(size_t i, unsigned empty) {
     check(same && nothing == 0, text);
 }
 
+/* The version, as a number and as text. */
+static void version(void) {
+    char text[32];
+    snprintf(text, sizeof text, "%d.%d.%d", RILLMOTH_VERSION / 10000, RILLMOTH_VERSION / 100 % 100, RILLMOTH_VERSION % 100);
+    check(!strcmp(text, RILLMOTH_VERSION_TEXT), "the header has two versions");
+    check(rillmoth_version() == RILLMOTH_VERSION, "the library has another version than the header");
+}
+
+/* A call that makes a file was answered so, and left this many bytes of `out`; results and bytes beyond are as they were. */
+static void made(bool answer, const struct memory *m, uint64_t number, uint64_t place, size_t written, const char *name) {
+    char text[128];
+    snprintf(text, sizeof text, "%s: false, or something else told", name);
+    check(answer && m->results[RILLMOTH_NUMBER] == number && m->results[RILLMOTH_PLACE] == place && m->results[RILLMOTH_SECOND] == 0 &&
+              m->results[RILLMOTH_WRITE_LENGTH] == written,
+          text);
+    snprintf(text, sizeof text, "%s: memory beyond is written to", name);
+    check(all_untouched(m->results + RILLMOTH_WRITE_RESULTS, 8 * (m->results_count - RILLMOTH_WRITE_RESULTS)) &&
+              all_untouched(m->out + written, m->out_count - written),
+          text);
+}
+
+/* Files made from others. A bound that is changed by hand and mended gives what rebinding does, also where there was none before. */
+static void remade(void) {
+    enum { WAITING_AT = 9, CHECK_AT = 510 };
+    struct memory m = lend(0, 0, RILLMOTH_RESULTS, FILE_BYTES + 7), n = lend(0, 0, RILLMOTH_RESULTS, FILE_BYTES + 7);
+    uint8_t changed[FILE_BYTES];
+    made(rebind_in(&m), &m, RILLMOTH_NOT_REFUSED, 0, FILE_BYTES, "rillmoth_rebind");
+    memcpy(changed, file, FILE_BYTES);
+    changed[WAITING_AT] = 3;
+    made(rillmoth_mend(changed, FILE_BYTES, n.out, n.out_count, n.results, n.results_count), &n, RILLMOTH_NOT_REFUSED, 0, FILE_BYTES,
+         "rillmoth_mend");
+    check(!memcmp(m.out, n.out, FILE_BYTES), "a file mended is not the file rebound");
+    check(m.out[WAITING_AT] == 3 && memcmp(m.out + CHECK_AT, file + CHECK_AT, 2), "a file rebound has other bounds, or the old check");
+    check(!memcmp(m.out + CHECK_AT + 2, file + CHECK_AT + 2, FILE_BYTES - CHECK_AT - 2), "a file rebound has other blocks");
+
+    changed[WAITING_AT] = 0;
+    made(rillmoth_mend(changed, FILE_BYTES, m.out, m.out_count, m.results, m.results_count), &m, RILLMOTH_NOT_REFUSED, 0, FILE_BYTES,
+         "rillmoth_mend of a B of 0");
+    memcpy(changed, m.out, FILE_BYTES);
+    memset(m.out, UNTOUCHED, m.out_count);
+    made(rillmoth_retrace(changed, FILE_BYTES, other, sizeof other, m.out, m.out_count, m.results, m.results_count), &m,
+         RILLMOTH_BAD_WAITING, 0, 0, "rillmoth_retrace of a B of 0");
+    made(rillmoth_rebind(changed, FILE_BYTES, 33, 1, m.out, m.out_count, m.results, m.results_count), &m, RILLMOTH_BAD_WAITING, 33, 0,
+         "rillmoth_rebind with a B of 33");
+    made(rillmoth_rebind(changed, FILE_BYTES, 3, 1, m.out, m.out_count, m.results, m.results_count), &m, RILLMOTH_NOT_REFUSED, 0,
+         FILE_BYTES, "rillmoth_rebind of a B of 0");
+    check(!memcmp(m.out, n.out, FILE_BYTES), "a B of 0 is not rebound");
+
+    memset(m.out, UNTOUCHED, m.out_count);
+    made(rillmoth_retrace(file, file_count, NULL, 0, m.out, m.out_count, m.results, m.results_count), &m, RILLMOTH_NOT_REFUSED, 0,
+         FILE_BYTES - 512, "rillmoth_retrace with no trace");
+    check(!memcmp(m.out, file, FILE_BYTES - 512), "a file without its trace is another");
+    made(rillmoth_retrace(m.out, FILE_BYTES - 512, trace, sizeof trace, n.out, n.out_count, n.results, n.results_count), &n,
+         RILLMOTH_NOT_REFUSED, 0, FILE_BYTES, "rillmoth_retrace of no trace");
+    check(!memcmp(n.out, file, FILE_BYTES), "a file with its trace again is another");
+    give_back(&m), give_back(&n);
+}
+
+/* A listing was answered so, and its text is this one. */
+static void listed(bool answer, struct memory *m, uint64_t number, uint64_t place, uint64_t events, uint64_t flag, const char *text) {
+    const uint64_t *r = m->results;
+    size_t count = strlen(text);
+    check(answer && r[RILLMOTH_NUMBER] == number && r[RILLMOTH_PLACE] == place && r[RILLMOTH_SECOND] == 0,
+          "a listing tells something else");
+    check(r[RILLMOTH_LISTING_TEXT] == count && r[RILLMOTH_LISTING_EVENTS] == events && r[RILLMOTH_LISTING_FLAG] == flag,
+          "a listing counts something else");
+    check(!memcmp(m->out, text, count), "another text is listed");
+    check(all_untouched(r + RILLMOTH_LISTING_RESULTS, 8 * (m->results_count - RILLMOTH_LISTING_RESULTS)) &&
+              all_untouched(m->out + count, m->out_count - count),
+          "memory beyond a listing is written to");
+    memset(m->out, UNTOUCHED, m->out_count), memset(m->results, UNTOUCHED, 8 * m->results_count);
+}
+
+static void listings(void) {
+    static uint8_t long_file[RILLMOTH_MOST_FILE_BYTES + 1];
+    struct memory m = lend(0, 0, RILLMOTH_RESULTS, RILLMOTH_LISTING_BYTES + 9);
+    check(RILLMOTH_LISTING_BYTES == (RILLMOTH_MOST_FILE_EVENTS + 2) * 96, "RILLMOTH_LISTING_BYTES is another");
+    listed(listing_in(&m), &m, RILLMOTH_NOT_REFUSED, 0, sizeof trace, 0,
+           "event symbol states waiting run\n0 i0 0000000000000003 0-1 0-0\n1 o0 0000000000000001 0-0 0-0\n"
+           "2 i0 0000000000000003 0-1 0-0\nconsistent\n");
+
+    uint8_t flagged[FILE_BYTES];
+    uint64_t results[RILLMOTH_RESULTS];
+    check(rillmoth_retrace(file, file_count, other, sizeof other, flagged, sizeof flagged, results, RILLMOTH_RESULTS) &&
+              results[RILLMOTH_NUMBER] == RILLMOTH_NOT_REFUSED,
+          "another trace is refused");
+    listed(list_in(&m, flagged, FILE_BYTES, FILE_BYTES), &m, RILLMOTH_NOT_REFUSED, 0, sizeof other, 5,
+           "event symbol states waiting run\n0 i0 0000000000000003 0-1 0-0\n1 o0 0000000000000001 0-0 0-0\n"
+           "2 i0 0000000000000003 0-1 0-0\n3 o1 0000000000000001 0-0 0-0\n4 o0 0000000000000000 - -\nflagged 4\n");
+
+    listed(list_in(&m, NULL, 0, 0), &m, RILLMOTH_BAD_LENGTH, 0, 0, 0, "refused 11 0\n");
+    listed(list_in(&m, file, 7, 7), &m, RILLMOTH_BAD_LENGTH, 7, 0, 0, "refused 11 7\n");
+    listed(list_in(&m, long_file, sizeof long_file, 5000000000), &m, RILLMOTH_BAD_LENGTH, 5000000000, 0, 0, "refused 11 5000000000\n");
+    give_back(&m);
+}
+
 int main(void) {
     uint64_t results[RILLMOTH_RESULTS];
     (void)rillmoth_write(RILLMOTH_SOURCE_ROWS, rows, sizeof rows, 2, 1, 2, 2, 1, trace, sizeof trace, file, sizeof file, results,
@@ -258,7 +406,7 @@ int main(void) {
         if (count > 0) try_one(i, words, bytes, count - 1, out, false, "results too short");
         if (words > 0) try_one(i, words - 1, bytes, count, out, false, "words too short");
         if (words > 0) try_one(i, words, bytes - 1, count, out, false, "bytes too short");
-        if (functions[i].out_decides) try_one(i, words, bytes, count, out - 1, false, "rows too short");
+        if (functions[i].out_decides) try_one(i, words, bytes, count, out - 1, false, "rows or text too short");
     }
 
     check(file_count == FILE_BYTES, "a file has another length");
@@ -271,7 +419,8 @@ int main(void) {
     /* A short buffer for bytes is a refusal, which tells the length needed and writes nothing else. */
     static const struct {
         size_t function, needed;
-    } rooms[] = {{2, sizeof trace * RILLMOTH_LINE_BYTES}, {3, sizeof trace}, {4, FILE_BYTES}, {5, 1}};
+    } rooms[] = {{2, sizeof trace * RILLMOTH_LINE_BYTES}, {3, sizeof trace}, {4, FILE_BYTES}, {5, 1}, {8, FILE_BYTES},
+                 {9, FILE_BYTES}, {10, FILE_BYTES}};
     for (size_t i = 0; i < sizeof rooms / sizeof *rooms; i++) {
         struct memory m = lend(0, functions[rooms[i].function].bytes, RILLMOTH_RESULTS, rooms[i].needed - 1);
         check(functions[rooms[i].function].call(&m), "a short buffer is answered with false");
@@ -336,6 +485,10 @@ int main(void) {
     check(all_untouched(m.results + RILLMOTH_OPEN_RESULTS, 8 * (RILLMOTH_RESULTS - RILLMOTH_OPEN_RESULTS)),
           "results beyond are written to");
     give_back(&m);
+
+    version();
+    remade();
+    listings();
 
     printf("%d passed, %d failed\n", passed, failed);
     return failed != 0;

@@ -26,6 +26,10 @@ fn serve() -> io::Result<()> {
             8 => requests::write(&mut input, &mut output)?,
             9 => requests::again(&mut input, &mut output)?,
             10 => requests::standard(&mut input, &mut output)?,
+            11 => requests::rebind(&mut input, &mut output)?,
+            12 => requests::retrace(&mut input, &mut output)?,
+            13 => requests::mend(&mut input, &mut output)?,
+            14 => requests::listing(&mut input, &mut output)?,
             _ => return Err(io::Error::new(io::ErrorKind::InvalidData, format!("request {request}"))),
         }
         output.flush()?;

@@ -1,7 +1,7 @@
 //! The requests, each through the Rust door and back into the figures of its answer.
 
 use crate::wire::{Input, Output};
-use rillmoth::{Capture, Contents, House, Outcome, Refusal, Session, Source};
+use rillmoth::{Bounds, Capture, Contents, House, Listing, Outcome, Refusal, Session, Source, MOST_LISTING_BYTES};
 use std::fs::{self, File, OpenOptions};
 use std::io::{self, Read, Seek, Write};
 
@@ -152,4 +152,63 @@ pub fn standard(input: &mut Input, output: &mut Output) -> io::Result<()> {
         room.copy_from_slice(&rows);
     }
     output.bytes(&out)
+}
+
+/// What the door is asked to write to, and how many results the answer is to have.
+struct Lent {
+    out: Vec<u8>,
+    results: usize,
+}
+
+impl Lent {
+    fn taken(input: &mut Input) -> io::Result<Lent> {
+        Ok(Lent { out: input.untouched()?, results: input.size()? })
+    }
+
+    /// The door lends results of its own, and so never too few: there the library is not asked where it would answer false. Else what was
+    /// told stands in the first words.
+    fn answer<const COUNT: usize>(
+        &mut self,
+        output: &mut Output,
+        ask: impl FnOnce(&mut [u8]) -> Option<[u64; COUNT]>,
+    ) -> io::Result<()> {
+        let told = if self.results < COUNT { None } else { ask(&mut self.out) };
+        output.numbers(&[told.is_some().into()])?;
+        output.results(told.as_ref().map_or(&[][..], |told| &told[..]), self.results)?;
+        output.left(&self.out)
+    }
+}
+
+/// Number and places, and how long the file is that was made.
+fn made(answer: Result<usize, Refusal>) -> Option<[u64; 4]> {
+    let [number, place, second] = told(&answer);
+    Some([number, place, second, answer.map_or(0, |length| length as u64)])
+}
+
+pub fn rebind(input: &mut Input, output: &mut Output) -> io::Result<()> {
+    let file = input.bytes()?;
+    let bounds = Bounds { waiting: input.size()?, losses: input.size()? };
+    Lent::taken(input)?.answer(output, |out| made(rillmoth::rebind(&file, bounds, out)))
+}
+
+pub fn retrace(input: &mut Input, output: &mut Output) -> io::Result<()> {
+    let (file, trace) = (input.bytes()?, input.bytes()?);
+    Lent::taken(input)?.answer(output, |out| made(rillmoth::retrace(&file, &trace, out)))
+}
+
+pub fn mend(input: &mut Input, output: &mut Output) -> io::Result<()> {
+    let file = input.bytes()?;
+    Lent::taken(input)?.answer(output, |out| made(rillmoth::mend(&file, out)))
+}
+
+/// The door asks for the room that every text has.
+pub fn listing(input: &mut Input, output: &mut Output) -> io::Result<()> {
+    let (file, length) = (input.bytes()?, input.size()?);
+    Lent::taken(input)?.answer(output, |out| {
+        let room: &mut [u8; MOST_LISTING_BYTES] = out.get_mut(..MOST_LISTING_BYTES)?.try_into().ok()?;
+        let Listing { text, events, verdict } = rillmoth::listing(&file, length, room);
+        let [number, place, second] = told(&verdict);
+        let flag = verdict.ok().flatten().map_or(0, |place| place + 1);
+        Some([number, place, second, text.len() as u64, events, flag])
+    })
 }

@@ -100,6 +100,19 @@ impl<'a> Output<'a> {
         self.to.write_all(bytes)
     }
 
+    /// So many results, of which these were told.
+    pub fn results(&mut self, told: &[u64], count: usize) -> io::Result<()> {
+        self.numbers(told)?;
+        self.numbers(&vec![u64::from_le_bytes([UNTOUCHED; 8]); count - told.len()])
+    }
+
+    /// The bytes up to the last that is not as it was before.
+    pub fn left(&mut self, bytes: &[u8]) -> io::Result<()> {
+        let end = bytes.iter().rposition(|byte| *byte != UNTOUCHED).map_or(0, |last| last + 1);
+        self.numbers(&[end as u64])?;
+        self.bytes(&bytes[..end])
+    }
+
     pub fn session(&mut self, session: &Session) -> io::Result<()> {
         self.numbers(session.words())?;
         self.bytes(session.bytes())

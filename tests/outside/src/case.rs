@@ -3,15 +3,18 @@
 
 use crate::capture::{self, Imported, Made};
 use crate::house::{self, Answered};
+use crate::lent::{Left, Lent};
 use crate::listing::{self, Listed};
 use crate::refusal::{Offered, Refusal};
+use crate::remaker;
 use crate::run::{self, Ran};
 use crate::session::{self, Session};
 use crate::standard::{self, Given};
 use crate::writer::{self, Wanted, Written};
 use crate::wrong::Wrong;
 
-/// An opening is handed memory too, in which a session may lie before.
+/// An opening is handed memory too, in which a session may lie before. Of a file that is listed in memory the length is handed over, since
+/// only a part of it may be there.
 #[derive(Clone, Debug)]
 pub enum Case {
     Open { offered: Offered, before: Session },
@@ -24,6 +27,10 @@ pub enum Case {
     Write { wanted: Wanted, room: usize },
     Again { file: Vec<u8>, room: usize },
     Standard { room: usize },
+    Rebind { file: Vec<u8>, waiting: u64, losses: u64, lent: Lent },
+    Retrace { file: Vec<u8>, trace: Vec<u8>, lent: Lent },
+    Mend { file: Vec<u8>, lent: Lent },
+    Listing { file: Vec<u8>, length: u64, lent: Lent },
 }
 
 #[derive(Clone, Debug, PartialEq)]
@@ -36,6 +43,8 @@ pub enum Answer {
     Hand([u64; 6]),
     Write(Written),
     Standard(Given),
+    Remade(Left),
+    Listing(Left),
 }
 
 /// The functions, in the order in which the driver numbers them, each with the refusal numbers that
@@ -51,6 +60,10 @@ pub const FUNCTIONS: &[(&str, &[u64])] = &[
     ("write", &[1, 2, 3, 4, 5, 6, 7, 9, 10, 14]),
     ("again", &[1, 2, 3, 4, 5, 6, 7, 12, 14, 20, 21, 22, 23]),
     ("standard", &[]),
+    ("rebind", &[1, 2, 3, 4, 5, 6, 7, 9, 10, 11, 12, 14, 20, 21, 22, 23]),
+    ("retrace", &[1, 2, 3, 4, 5, 6, 7, 9, 10, 11, 12, 14, 20, 21, 22, 23]),
+    ("mend", &[10, 11]),
+    ("listing", &[1, 2, 3, 4, 5, 6, 7, 9, 11, 12, 14, 20, 21, 22, 23]),
 ];
 
 fn told(refusal: Option<Refusal>) -> [u64; 3] {
@@ -71,6 +84,10 @@ impl Case {
             Case::Write { .. } => 7,
             Case::Again { .. } => 8,
             Case::Standard { .. } => 9,
+            Case::Rebind { .. } => 10,
+            Case::Retrace { .. } => 11,
+            Case::Mend { .. } => 12,
+            Case::Listing { .. } => 13,
         }
     }
 
@@ -93,6 +110,12 @@ impl Case {
             Case::Write { wanted, room } => Answer::Write(writer::write(wanted, *room, wrong)),
             Case::Again { file, room } => Answer::Write(writer::again(file, *room, wrong)),
             Case::Standard { room } => Answer::Standard(standard::give(*room, wrong)),
+            Case::Rebind { file, waiting, losses, lent } => {
+                Answer::Remade(remaker::rebind(file, *waiting, *losses, *lent, wrong))
+            }
+            Case::Retrace { file, trace, lent } => Answer::Remade(remaker::retrace(file, trace, *lent, wrong)),
+            Case::Mend { file, lent } => Answer::Remade(remaker::mend(file, *lent, wrong)),
+            Case::Listing { file, length, lent } => Answer::Listing(listing::put(file, *length, *lent, wrong)),
         }
     }
 }
@@ -103,8 +126,10 @@ impl Answer {
         match self {
             Answer::Session { session, .. } => session.flag.is_some(),
             Answer::Run(ran) => ran.told[3] > 0,
-            Answer::Read(_) | Answer::Import(_) | Answer::Hand(_) | Answer::Write(_) | Answer::Standard(_) => false,
+            Answer::Read(_) | Answer::Import(_) | Answer::Hand(_) => false,
+            Answer::Write(_) | Answer::Standard(_) | Answer::Remade(_) => false,
             Answer::List(listed) => listed.outcome == listing::FLAGGED,
+            Answer::Listing(left) => left.fits && left.told[listing::FLAG] > 0,
         }
     }
 
@@ -118,6 +143,13 @@ impl Answer {
             Answer::Hand(told) => told[0],
             Answer::Write(written) => written.told[0],
             Answer::Standard(_) => 0,
+            Answer::Remade(left) | Answer::Listing(left) => {
+                if left.fits {
+                    left.told[0]
+                } else {
+                    0
+                }
+            }
             Answer::List(listed) => {
                 let mut words = listed.text.split_whitespace();
                 match (words.next(), words.next()) {

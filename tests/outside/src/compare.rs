@@ -198,10 +198,11 @@ fn told_apart_of(left: &Mutex<&mut (dyn Iterator<Item = Vec<Case>> + Send)>) -> 
     while let Some(cases) = next(left) {
         all += cases.len();
         let right: Vec<Answer> = cases.iter().map(|case| case.answer(Wrong::Nothing)).collect();
-        for (counts, (wrong, _, _)) in counts.iter_mut().zip(wrong::ALL) {
+        for (counts, entry) in counts.iter_mut().zip(wrong::ALL) {
             for (case, right) in cases.iter().zip(&right) {
-                if case.answer(*wrong) != *right {
-                    counts[case.function()] += 1;
+                let function = case.function();
+                if entry.bears_on(FUNCTIONS[function].0) && case.answer(entry.wrong) != *right {
+                    counts[function] += 1;
                 }
             }
         }

@@ -9,29 +9,49 @@ use crate::random::Random;
 use crate::tables;
 
 /// T under B 2 and c 1.
-fn small(events: Vec<u8>) -> Content {
+pub fn small(events: Vec<u8>) -> Content {
     content_of(&tables::small(), Bounds { waiting: 2, losses: 1 }, events)
 }
 
-fn standard(events: Vec<u8>) -> Content {
+pub fn standard(events: Vec<u8>) -> Content {
     let bounds = Bounds { waiting: 3, losses: 2 };
     Content { source: 1, rows: Vec::new(), ..content_of(&tables::standard_box(), bounds, events) }
 }
 
-/// Document 01's edges for files, each read and listed; and the edges of the buffers.
-pub fn edges() -> Vec<Case> {
-    let mut files = content_edges();
-    files.extend(length_edges());
-    files.extend(check_edges());
-    files.extend(block_edges());
-    files.extend(flaw_edges());
-    files.extend(order_edges());
-    files.extend(most_edges());
-    files.extend(repeat_edges());
+/// Document 01's edges for files, by what they are about.
+pub struct Files {
+    /// What a file says, in blocks that are right.
+    pub contents: Vec<Vec<u8>>,
+    /// Lengths, checks, parts of a block, orders of blocks.
+    pub forms: Vec<Vec<u8>>,
+    /// Two parts of a block at once.
+    pub flaws: Vec<Vec<u8>>,
+    /// Checks that are the least and the greatest.
+    pub remainders: Vec<Vec<u8>>,
+    /// As many events and blocks as there may be.
+    pub most: Vec<Vec<u8>>,
+    /// The standard box polled again.
+    pub repeats: Vec<Vec<u8>>,
+}
+
+pub fn files() -> Files {
+    Files {
+        contents: content_edges(),
+        forms: [length_edges(), check_edges(), block_edges(), order_edges()].concat(),
+        flaws: flaw_edges(),
+        remainders: remainder_edges(),
+        most: most_edges(),
+        repeats: repeat_edges(),
+    }
+}
+
+/// Each file read and listed; and the edges of the buffers.
+pub fn edges(files: &Files) -> Vec<Case> {
+    let Files { contents, forms, flaws, remainders, most, repeats } = files;
     let mut cases = Vec::new();
-    for file in files {
+    for file in [contents, forms, flaws, remainders, most, repeats].into_iter().flatten() {
         cases.push(Case::Read { file: file.clone(), row_room: 2100, event_room: 4200 });
-        cases.push(Case::List { file });
+        cases.push(Case::List { file: file.clone() });
     }
     cases.extend(room_edges());
     cases.extend(byte_edges());
@@ -131,7 +151,6 @@ fn check_edges() -> Vec<Vec<u8>> {
             }
         }
     }
-    files.extend(remainder_edges());
     files
 }
 
@@ -293,12 +312,10 @@ fn order_edges() -> Vec<Vec<u8>> {
 
 /// As many events and as many blocks as there may be, and one more.
 fn most_edges() -> Vec<Vec<u8>> {
-    let alternating =
-        |length: usize| (0..length).map(|event| if event % 2 == 0 { 0 } else { 128 }).collect::<Vec<u8>>();
     let mut files = Vec::new();
     for length in [4095, 4096, 4097, 4536] {
-        files.push(written(&small(alternating(length))));
-        let mut invalid = alternating(length);
+        files.push(written(&small(tables::alternating(length))));
+        let mut invalid = tables::alternating(length);
         invalid[length - 1] = 3;
         files.push(written(&small(invalid)));
     }

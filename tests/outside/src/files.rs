@@ -43,7 +43,7 @@ pub fn long_content(random: &mut Random) -> Content {
 }
 
 /// A valid file, its content's fields perhaps damaged, its bytes not.
-fn file(random: &mut Random) -> Vec<u8> {
+pub fn file(random: &mut Random) -> Vec<u8> {
     let mut content = if random.chance(1, 30) { long_content(random) } else { content(random) };
     if random.chance(1, 3) {
         damage_content(random, &mut content);
@@ -76,7 +76,7 @@ pub fn damage_content(random: &mut Random, content: &mut Content) {
     }
 }
 
-fn damaged_file(random: &mut Random) -> Vec<u8> {
+pub fn damaged_file(random: &mut Random) -> Vec<u8> {
     let mut file = file(random);
     for _ in 0..random.pick(&[1, 1, 1, 2]) {
         damage_file(random, &mut file);

@@ -4,13 +4,14 @@
 use crate::case::Case;
 use crate::random::Random;
 use crate::{captures, file_edges, files, run_edges, runs, session_edges, sessions, standard, writes};
+use crate::{listings, remakes};
 
 pub const BATCH: usize = 1000;
 
 /// A way of making a case.
 type Maker = fn(&mut Random) -> Case;
 
-/// How many cases of each 164 come from each maker.
+/// How many cases of each 192 come from each maker.
 const MIX: &[(usize, Maker)] = &[
     (30, runs::run),
     (10, runs::damaged_run),
@@ -30,16 +31,23 @@ const MIX: &[(usize, Maker)] = &[
     (24, writes::written),
     (24, writes::again),
     (6, writes::read_edited),
+    (9, remakes::rebound),
+    (9, remakes::retraced),
+    (4, remakes::mended),
+    (6, listings::listed),
 ];
 
 /// The systematic cases, which need no seed.
 pub fn edges() -> Vec<Case> {
+    let files = file_edges::files();
     let mut cases = run_edges::edges();
     cases.extend(session_edges::edges());
-    cases.extend(file_edges::edges());
+    cases.extend(file_edges::edges(&files));
     cases.extend(captures::edges());
     cases.extend(writes::edges());
     cases.extend(standard::edges());
+    cases.extend(remakes::edges(&files));
+    cases.extend(listings::edges(&files));
     cases
 }
 

@@ -12,6 +12,10 @@ pub const PAYLOAD: usize = 504;
 pub const PAYLOAD_AT: usize = 6;
 pub const CHECK_AT: usize = 510;
 pub const MOST_BLOCKS: usize = 15;
+
+/// More bytes than any file's rows or events.
+pub const ROOM: usize = BLOCK * (MOST_BLOCKS + 1);
+
 pub const MOST_EVENTS: u64 = 4096;
 pub const MODULUS: u64 = 65_521;
 
@@ -40,13 +44,18 @@ impl Content {
 
     pub fn offered_as(&self, wrong: Wrong) -> Offered {
         let rows = if self.source == 1 && self.rows.is_empty() { standard::rows_as(wrong) } else { self.rows.clone() };
+        Offered { rows, ..self.given() }
+    }
+
+    /// Counts, bounds and rows as they stand in the file.
+    fn given(&self) -> Offered {
         Offered {
             states: self.states as u64,
             inputs: self.inputs as u64,
             outputs: self.outputs as u64,
             waiting: self.waiting as u64,
             losses: self.losses as u64,
-            rows,
+            rows: self.rows.clone(),
         }
     }
 }
@@ -152,17 +161,29 @@ pub fn fitted(file: &[u8], row_room: usize, event_room: usize, wrong: Wrong) -> 
 
 /// All tests but 10.
 fn content(file: &[u8], wrong: Wrong) -> Result<Content, Refused> {
-    let most = if wrong == Wrong::BlocksSixteen { MOST_BLOCKS + 1 } else { MOST_BLOCKS };
-    if file.is_empty() || !file.len().is_multiple_of(BLOCK) || file.len() > BLOCK * most {
-        return Err((Refusal { number: 11, place: file.len() as u64, second: 0 }, None));
-    }
-    let blocks: Vec<&[u8]> = file.chunks(BLOCK).collect();
-    blocked(&blocks, wrong).map_err(|refusal| (refusal, None))?;
-    let content = gathered(&blocks);
+    let content = unpacked(file, wrong).map_err(|refusal| (refusal, None))?;
     match judged(&content, wrong) {
         Err(refusal) => Err((refusal, Some(content))),
         Ok(()) => Ok(content),
     }
+}
+
+/// Number 11: whole blocks, one to fifteen of them.
+pub fn whole(file: &[u8], wrong: Wrong) -> Result<(), Refusal> {
+    let most = if wrong == Wrong::BlocksSixteen { MOST_BLOCKS + 1 } else { MOST_BLOCKS };
+    if file.is_empty() || !file.len().is_multiple_of(BLOCK) || file.len() > BLOCK * most {
+        refuse(11, file.len() as u64)
+    } else {
+        Ok(())
+    }
+}
+
+/// What the blocks of a file hold, none of it tested: 11, 12 and 20 to 23 only.
+pub fn unpacked(file: &[u8], wrong: Wrong) -> Result<Content, Refusal> {
+    whole(file, wrong)?;
+    let blocks: Vec<&[u8]> = file.chunks(BLOCK).collect();
+    blocked(&blocks, wrong)?;
+    Ok(gathered(&blocks))
 }
 
 /// Block by block, 12 and then 20 to 23.
@@ -182,16 +203,22 @@ fn blocked(blocks: &[&[u8]], wrong: Wrong) -> Result<(), Refusal> {
     Ok(())
 }
 
+/// The check that a block must have.
+pub fn check(block: &[u8], wrong: Wrong) -> u64 {
+    match wrong {
+        Wrong::WeightsFromZero => sum(block, 0) % MODULUS,
+        Wrong::CheckByWord => sum(block, 1) % 65_536,
+        _ => sum(block, 1) % MODULUS,
+    }
+}
+
 /// Number 12. The stored check must equal the remainder: 65,521 and above never do.
-fn checked(block: &[u8], number: usize, wrong: Wrong) -> Result<(), Refusal> {
-    let stored = two(block, CHECK_AT);
-    let right = match wrong {
-        Wrong::WeightsFromZero => stored == sum(block, 0) % MODULUS,
-        Wrong::CheckByWord => stored == sum(block, 1) % 65_536,
-        Wrong::CheckReduced => stored % MODULUS == sum(block, 1) % MODULUS,
-        _ => stored == sum(block, 1) % MODULUS,
-    };
-    if right {
+pub fn checked(block: &[u8], number: usize, wrong: Wrong) -> Result<(), Refusal> {
+    let mut stored = two(block, CHECK_AT);
+    if wrong == Wrong::CheckReduced {
+        stored %= MODULUS;
+    }
+    if stored == check(block, wrong) {
         Ok(())
     } else {
         refuse(12, number as u64)
@@ -330,9 +357,9 @@ fn gathered(blocks: &[&[u8]]) -> Content {
 }
 
 /// 2, 3, 14, 1, 4, 5, 6, 9, 7.
-fn judged(content: &Content, wrong: Wrong) -> Result<(), Refusal> {
+pub fn judged(content: &Content, wrong: Wrong) -> Result<(), Refusal> {
     let standard = content.source == 1;
-    let offered = Offered { rows: content.rows.clone(), ..content.offered() };
+    let offered = content.given();
     if wrong == Wrong::LengthBeforeStates && !standard {
         offered.length()?;
     }

@@ -2,6 +2,7 @@
 //! line ends with one line feed.
 
 use crate::house;
+use crate::lent::{Left, Lent};
 use crate::model::FIRST_OUTPUT;
 use crate::refusal::Refusal;
 use crate::run::{judged, Figure};
@@ -11,8 +12,12 @@ pub const CONSISTENT: u64 = 0;
 pub const FLAGGED: u64 = 1;
 pub const REFUSED: u64 = 2;
 
-/// More bytes than any file's rows or events.
-const ROOM: usize = house::BLOCK * (house::MOST_BLOCKS + 1);
+/// The room that is asked for a text, whatever the file.
+pub const TEXT_ROOM: usize = 393_408;
+
+/// The results, and which of them is the flag.
+pub const RESULTS: usize = 6;
+pub const FLAG: usize = 5;
 
 /// The text, and the outcome: consistent, flagged or refused.
 #[derive(Clone, Debug, PartialEq)]
@@ -21,12 +26,69 @@ pub struct Listed {
     pub outcome: u64,
 }
 
-/// Lists a file. The program has room for every file it can be given, so 10 never comes.
+/// All that is said of a file.
+struct Said {
+    refusal: Option<Refusal>,
+    events: u64,
+    flag: Option<u64>,
+    text: String,
+}
+
+/// Lists a file.
 pub fn list(file: &[u8], wrong: Wrong) -> Listed {
-    let content = match house::fitted(file, ROOM, ROOM, wrong) {
+    let Said { refusal, flag, text, .. } = said(file, file.len() as u64, wrong);
+    let outcome = match (refusal, flag) {
+        (Some(_), _) => REFUSED,
+        (None, Some(_)) => FLAGGED,
+        (None, None) => CONSISTENT,
+    };
+    Listed { text, outcome }
+}
+
+/// Lists a file that has so many bytes, of which these are lent, into memory: number, place, second place, the bytes of the text, the
+/// events, and 0 or the flag's place + 1.
+pub fn put(file: &[u8], length: u64, lent: Lent, wrong: Wrong) -> Left {
+    if lent.room < TEXT_ROOM && wrong != Wrong::TextRoomOfText {
+        return lent.alone();
+    }
+    let Said { refusal, events, flag, text } = said(file, length, wrong);
+    if lent.room < text.len() || (wrong == Wrong::TextRoomOneMore && lent.room == TEXT_ROOM) {
+        return lent.alone();
+    }
+    let [number, place, second] = refusal.map_or([0; 3], |refusal| refusal.told());
+    let flag = flag.map_or(0, |place| if wrong == Wrong::ListingFlagPlace { place } else { place + 1 });
+    let bytes = text.len() as u64;
+    let told = match wrong {
+        Wrong::ListingNumberless => [0, 0, 0, bytes, events, flag],
+        Wrong::ListingCountsSwapped => [number, place, second, events, bytes, flag],
+        Wrong::ListingCountsUnended => [number, place, second, bytes - 1, events, flag],
+        Wrong::ListingCountsLines => [number, place, second, bytes, text.lines().count() as u64, flag],
+        _ => [number, place, second, bytes, events, flag],
+    };
+    let mut out = text.into_bytes();
+    if wrong == Wrong::ListingRefusedUnsaid && number > 0 {
+        out.clear();
+    }
+    if wrong == Wrong::ClearsRest {
+        out.resize(lent.room, 0);
+    }
+    lent.left(&told, out, wrong)
+}
+
+/// What is said of a file that has so many bytes, of which these are lent: it is told with 11, and looked at nowhere else. There is room
+/// for every file's rows and events, so 10 never comes.
+fn said(file: &[u8], length: u64, wrong: Wrong) -> Said {
+    let content = match house::fitted(file, house::ROOM, house::ROOM, wrong) {
         Ok(content) => content,
-        Err((refusal, _)) => {
-            return Listed { text: refused(&refusal, wrong), outcome: REFUSED };
+        Err((mut refusal, content)) => {
+            if refusal.number == 11 && wrong != Wrong::ListingKeptLength {
+                refusal.place = length;
+            }
+            let events = match content {
+                Some(content) if wrong == Wrong::TellsWhenRefused => content.events.len() as u64,
+                _ => 0,
+            };
+            return Said { refusal: Some(refusal), events, flag: None, text: refused(&refusal, wrong) };
         }
     };
     let (figures, flag) = judged(&content.offered_as(wrong), &content.events, wrong);
@@ -37,20 +99,14 @@ pub fn list(file: &[u8], wrong: Wrong) -> Listed {
             break;
         }
     }
-    let outcome = match flag {
-        Some(place) => {
-            text += &format!("flagged {place}\n");
-            FLAGGED
-        }
-        None => {
-            text += "consistent\n";
-            CONSISTENT
-        }
-    };
+    match flag {
+        Some(place) => text += &format!("flagged {place}\n"),
+        None => text += "consistent\n",
+    }
     if wrong == Wrong::ListingUnended {
         text.pop();
     }
-    Listed { text, outcome }
+    Said { refusal: None, events: content.events.len() as u64, flag, text }
 }
 
 /// The number and its place; for 4 row then column, for 20 to 23 block then offset.

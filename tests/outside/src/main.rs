@@ -10,10 +10,14 @@ mod file_edges;
 mod files;
 mod generate;
 mod house;
+mod lent;
 mod listing;
+mod listings;
 mod model;
 mod random;
 mod refusal;
+mod remaker;
+mod remakes;
 mod report;
 mod run;
 mod run_edges;
@@ -34,7 +38,7 @@ use case::{Case, FUNCTIONS};
 use compare::{Counts, Start, Tally};
 use std::process::ExitCode;
 use std::time::{Duration, Instant};
-use wrong::Wrong;
+use wrong::{Entry, Wrong};
 
 const USAGE: &str =
     "outside --driver PATH.. | --self [--as WRONG]   compare the drivers at these paths, or this package itself
@@ -44,7 +48,7 @@ const USAGE: &str =
   --case N    one case only, told in full
 outside --serve [WRONG]                         be a driver";
 
-const BATCHES: u64 = 30;
+const BATCHES: u64 = 35;
 
 /// Random batches that the wrong monitors see, beside all edges.
 const WRONG_BATCHES: u64 = 3;
@@ -186,7 +190,7 @@ fn apart(counts: &[Counts], of: usize, passed: &mut usize, failed: &mut usize) {
     println!("wrong monitors, and how many of {of} cases tell them apart:");
     let names: String = FUNCTIONS.iter().map(|(name, _)| format!("{name:>9}")).collect();
     println!("   all{names}");
-    for (counts, (_, name, does)) in counts.iter().zip(wrong::ALL) {
+    for (counts, Entry { name, does, .. }) in counts.iter().zip(wrong::ALL) {
         let all: usize = counts.iter().sum();
         let each: String = counts.iter().map(|count| format!("{count:9}")).collect();
         println!("{all:6}{each}  {name}: {does}");

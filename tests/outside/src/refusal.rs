@@ -79,6 +79,9 @@ impl Offered {
 
     /// Number 4, the first row and column, reading row by row. Only the rows given are looked at.
     pub fn entries(&self, wrong: Wrong) -> Result<(), Refusal> {
+        if wrong == Wrong::BoundsBeforeEntries {
+            self.bounds(wrong)?;
+        }
         let width = (self.inputs + self.outputs) as usize;
         let mut bad: Vec<(usize, usize)> = Vec::new();
         for (place, entry) in self.rows.iter().enumerate() {

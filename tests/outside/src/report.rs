@@ -2,6 +2,7 @@
 
 use crate::capture::Made;
 use crate::case::{Answer, Case};
+use crate::lent::{Left, Lent};
 use crate::refusal::Offered;
 use crate::session::Session;
 use crate::writer::Wanted;
@@ -47,6 +48,14 @@ fn made(capture: &Made) -> String {
     format!("capture {}, {times} times {}, {}", bytes(start), bytes(record), bytes(end))
 }
 
+fn given(file: &[u8]) -> String {
+    format!("file ({}) {}", file.len(), bytes(file))
+}
+
+fn lent(lent: &Lent) -> String {
+    format!("room {} results {}", lent.room, lent.results)
+}
+
 pub fn case(case: &Case) -> String {
     match case {
         Case::Open { offered: given, before } => format!("open {} over {}", offered(given), session(before)),
@@ -55,17 +64,27 @@ pub fn case(case: &Case) -> String {
             format!("run {} trace ({}) {} room {room}", offered(given), trace.len(), bytes(trace))
         }
         Case::Read { file, row_room, event_room } => {
-            format!("read rooms {row_room} {event_room} file ({}) {}", file.len(), bytes(file))
+            format!("read rooms {row_room} {event_room} {}", given(file))
         }
-        Case::List { file } => format!("list file ({}) {}", file.len(), bytes(file)),
+        Case::List { file } => format!("list {}", given(file)),
         Case::Import { capture, room } => format!("import room {room} {}", made(capture)),
         Case::Hand { capture, place } => format!("hand place {place} {}", made(capture)),
         Case::Write { wanted, room } => {
             let Wanted { source, offered: given, trace } = wanted;
             format!("write source {source} {} trace ({}) {} room {room}", offered(given), trace.len(), bytes(trace))
         }
-        Case::Again { file, room } => format!("again room {room} file ({}) {}", file.len(), bytes(file)),
+        Case::Again { file, room } => format!("again room {room} {}", given(file)),
         Case::Standard { room } => format!("standard room {room}"),
+        Case::Rebind { file, waiting, losses, lent: memory } => {
+            format!("rebind B {waiting} c {losses} {} {}", lent(memory), given(file))
+        }
+        Case::Retrace { file, trace, lent: memory } => {
+            format!("retrace trace ({}) {} {} {}", trace.len(), bytes(trace), lent(memory), given(file))
+        }
+        Case::Mend { file, lent: memory } => format!("mend {} {}", lent(memory), given(file)),
+        Case::Listing { file, length, lent: memory } => {
+            format!("listing length {length} {} {}", lent(memory), given(file))
+        }
     }
 }
 
@@ -99,9 +118,16 @@ pub fn difference(right: &Answer, came: &Answer) -> String {
         (Answer::Standard(right), Answer::Standard(came)) => {
             format!("told {:?} and not {:?}{}", right.told, came.told, buffers("rows", &right.rows, &came.rows))
         }
+        (Answer::Remade(right), Answer::Remade(came)) => left("file", right, came),
+        (Answer::Listing(right), Answer::Listing(came)) => left("text", right, came),
         (Answer::Hand(right), Answer::Hand(came)) => format!("told {right:?} and not {came:?}"),
         _ => String::from("an answer of another kind"),
     }
+}
+
+fn left(name: &str, right: &Left, came: &Left) -> String {
+    let answers = format!("{} {:?} and not {} {:?}", right.fits, right.told, came.fits, came.told);
+    format!("told {answers}{}", buffers(name, &right.out, &came.out))
 }
 
 fn buffers(name: &str, right: &[u8], came: &[u8]) -> String {

@@ -185,6 +185,6 @@ fn limit_edges() -> Vec<Case> {
 /// A full run: 1,048,576 events and 12 times as many bytes. Too much for every day.
 pub fn full_run() -> Case {
     let table = tables::small();
-    let trace: Vec<u8> = (0..MOST_EVENTS).map(|event| if event % 2 == 0 { 0 } else { 128 }).collect();
+    let trace = tables::alternating(MOST_EVENTS as usize);
     Handed::of(&table, Bounds { waiting: 2, losses: 1 }, trace).run()
 }

@@ -12,6 +12,11 @@ pub fn small() -> Table {
     Table { states: 2, inputs: 1, outputs: 2, rows: vec![1, 255, 255, 255, 0, 0] }
 }
 
+/// Polls of T that are answered at once.
+pub fn alternating(length: usize) -> Vec<u8> {
+    (0..length).map(|event| if event % 2 == 0 { 0 } else { FIRST_OUTPUT }).collect()
+}
+
 pub fn standard_box() -> Table {
     Table { states: standard::STATES, inputs: standard::INPUTS, outputs: standard::OUTPUTS, rows: standard::rows() }
 }

@@ -4,6 +4,7 @@
 use crate::capture::{Imported, Made};
 use crate::case::{Answer, Case};
 use crate::house::Answered;
+use crate::lent::{Left, Lent};
 use crate::listing::Listed;
 use crate::refusal::Offered;
 use crate::run::Ran;
@@ -32,6 +33,11 @@ fn put_offered(bytes: &mut Vec<u8>, offered: &Offered) {
         put(bytes, number);
     }
     put_counted(bytes, &offered.rows);
+}
+
+fn put_lent(bytes: &mut Vec<u8>, lent: &Lent) {
+    put(bytes, lent.room as u64);
+    put(bytes, lent.results as u64);
 }
 
 fn put_counted(bytes: &mut Vec<u8>, counted: &[u8]) {
@@ -82,6 +88,26 @@ pub fn request(case: &Case) -> Vec<u8> {
             put(&mut bytes, *room as u64);
         }
         Case::Standard { room } => put(&mut bytes, *room as u64),
+        Case::Rebind { file, waiting, losses, lent } => {
+            put_counted(&mut bytes, file);
+            put(&mut bytes, *waiting);
+            put(&mut bytes, *losses);
+            put_lent(&mut bytes, lent);
+        }
+        Case::Retrace { file, trace, lent } => {
+            put_counted(&mut bytes, file);
+            put_counted(&mut bytes, trace);
+            put_lent(&mut bytes, lent);
+        }
+        Case::Mend { file, lent } => {
+            put_counted(&mut bytes, file);
+            put_lent(&mut bytes, lent);
+        }
+        Case::Listing { file, length, lent } => {
+            put_counted(&mut bytes, file);
+            put(&mut bytes, *length);
+            put_lent(&mut bytes, lent);
+        }
     }
     bytes
 }
@@ -122,6 +148,25 @@ fn get_offered(from: &mut dyn Read) -> io::Result<Offered> {
     Ok(Offered { states, inputs, outputs, waiting, losses, rows: get_counted(from)? })
 }
 
+fn get_lent(from: &mut dyn Read) -> io::Result<Lent> {
+    Ok(Lent { room: get(from)? as usize, results: get(from)? as usize })
+}
+
+/// A length that no text and no buffer has is an answer out of step.
+fn get_text(from: &mut dyn Read) -> io::Result<Vec<u8>> {
+    let length = get(from)?;
+    if length > MOST_TEXT {
+        return Err(io::Error::new(io::ErrorKind::InvalidData, format!("a text of {length} bytes")));
+    }
+    get_bytes(from, length as usize)
+}
+
+fn get_left(lent: &Lent, from: &mut dyn Read) -> io::Result<Left> {
+    let fits = get(from)? > 0;
+    let told = (0..lent.results).map(|_| get(from)).collect::<io::Result<Vec<u64>>>()?;
+    Ok(Left { fits, told, out: get_text(from)? })
+}
+
 /// Reads the answer to a case.
 pub fn get_answer(case: &Case, from: &mut dyn Read) -> io::Result<Answer> {
     Ok(match case {
@@ -133,11 +178,7 @@ pub fn get_answer(case: &Case, from: &mut dyn Read) -> io::Result<Answer> {
             events: get_bytes(from, *event_room)?,
         }),
         Case::List { .. } => {
-            let length = get(from)?;
-            if length > MOST_TEXT {
-                return Err(io::Error::new(io::ErrorKind::InvalidData, format!("a text of {length} bytes")));
-            }
-            let text = get_bytes(from, length as usize)?;
+            let text = get_text(from)?;
             Answer::List(Listed { text: String::from_utf8_lossy(&text).into_owned(), outcome: get(from)? })
         }
         Case::Import { room, .. } => {
@@ -148,6 +189,10 @@ pub fn get_answer(case: &Case, from: &mut dyn Read) -> io::Result<Answer> {
             Answer::Write(Written { told: get_told(from)?, out: get_bytes(from, *room)? })
         }
         Case::Standard { room } => Answer::Standard(Given { told: get_told(from)?, rows: get_bytes(from, *room)? }),
+        Case::Rebind { lent, .. } | Case::Retrace { lent, .. } | Case::Mend { lent, .. } => {
+            Answer::Remade(get_left(lent, from)?)
+        }
+        Case::Listing { lent, .. } => Answer::Listing(get_left(lent, from)?),
     })
 }
 
@@ -182,6 +227,13 @@ fn get_case(operation: u64, from: &mut dyn Read) -> io::Result<Case> {
         }
         9 => Case::Again { file: get_counted(from)?, room: get(from)? as usize },
         10 => Case::Standard { room: get(from)? as usize },
+        11 => {
+            let (file, waiting, losses) = (get_counted(from)?, get(from)?, get(from)?);
+            Case::Rebind { file, waiting, losses, lent: get_lent(from)? }
+        }
+        12 => Case::Retrace { file: get_counted(from)?, trace: get_counted(from)?, lent: get_lent(from)? },
+        13 => Case::Mend { file: get_counted(from)?, lent: get_lent(from)? },
+        14 => Case::Listing { file: get_counted(from)?, length: get(from)?, lent: get_lent(from)? },
         _ => return Err(io::Error::new(io::ErrorKind::InvalidData, format!("operation {operation}"))),
     })
 }
@@ -197,6 +249,10 @@ fn reply(answer: &Answer) -> Vec<u8> {
         Answer::Hand(told) => told,
         Answer::Write(written) => &written.told,
         Answer::Standard(given) => &given.told,
+        Answer::Remade(left) | Answer::Listing(left) => {
+            put(&mut bytes, left.fits as u64);
+            &left.told
+        }
     };
     for number in told {
         put(&mut bytes, *number);
@@ -216,6 +272,7 @@ fn reply(answer: &Answer) -> Vec<u8> {
         Answer::Hand(_) => {}
         Answer::Write(written) => bytes.extend(&written.out),
         Answer::Standard(given) => bytes.extend(&given.rows),
+        Answer::Remade(left) | Answer::Listing(left) => put_counted(&mut bytes, &left.out),
     }
     bytes
 }

@@ -4,10 +4,12 @@ use crate::case::{Answer, Case};
 use crate::file_edges;
 use crate::files::damaged_read;
 use crate::house::{flaws, formed, repair, written, Content, BLOCK};
-use crate::listing::list;
+use crate::lent::{Lent, UNTOUCHED_WORD};
+use crate::listing::{list, put, TEXT_ROOM};
 use crate::model::{Bounds, Configuration, Event, Set, Watch};
 use crate::random::Random;
 use crate::refusal::Offered;
+use crate::remaker::{mend, rebind, retrace};
 use crate::session::{feed, open, Session, MOST_EVENTS};
 use crate::sessions::sound;
 use crate::tables::{event, offered, scattered, small, trace};
@@ -160,7 +162,7 @@ fn parts_of_a_block_are_told_in_their_order() {
 fn the_blocks_turned_away_are_those_of_thirteen() {
     let mut files: Vec<Vec<u8>> = Vec::new();
     let mut random = Random::new(13);
-    let cases = file_edges::edges().into_iter().chain((0..5000).map(|_| damaged_read(&mut random)));
+    let cases = file_edges::edges(&file_edges::files()).into_iter().chain((0..5000).map(|_| damaged_read(&mut random)));
     for case in cases {
         if let Case::Read { file, .. } = case {
             files.push(file);
@@ -177,6 +179,66 @@ fn the_blocks_turned_away_are_those_of_thirteen() {
         }
     }
     assert!(turned_away > 5000);
+}
+
+/// Memory for every file that is made here.
+const LENT: Lent = Lent { room: 2048, results: 4 };
+
+#[test]
+fn other_bounds_are_two_bytes_and_a_check() {
+    let old = file(&[POLL; 4]);
+    let left = rebind(&old, 32, 8, LENT, Wrong::Nothing);
+    assert_eq!((left.fits, &left.told[..]), (true, &[0, 0, 0, 1536][..]));
+    let places: Vec<usize> = (0..1536).filter(|place| left.out[*place] != old[*place]).collect();
+    assert_eq!(places, [9, 10, 510, 511]);
+    let mut bad = old.clone();
+    bad[9] = 0;
+    repair(&mut bad[..BLOCK]);
+    assert_eq!(list(&bad, Wrong::Nothing).text, "refused 5 0\n");
+    assert_eq!(rebind(&bad, 32, 8, LENT, Wrong::Nothing), left);
+    assert_eq!(rebind(&bad, 33, 0, LENT, Wrong::Nothing).told, [5, 33, 0, 0]);
+    assert_eq!(rebind(&bad, 32, 0, LENT, Wrong::Nothing).told, [6, 0, 0, 0]);
+    bad[0] = 7;
+    assert_eq!(rebind(&bad, 33, 0, LENT, Wrong::Nothing).told, [12, 0, 0, 0]);
+}
+
+#[test]
+fn another_trace_is_other_blocks_of_events() {
+    let old = file(&[POLL; 4]);
+    assert_eq!(retrace(&old, &[POLL], LENT, Wrong::Nothing).out, file(&[POLL]));
+    assert_eq!(retrace(&old, &[], LENT, Wrong::Nothing).told, [0, 0, 0, 1024]);
+    assert_eq!(retrace(&old, &[POLL; 505], LENT, Wrong::Nothing).told, [0, 0, 0, 2048]);
+    assert_eq!(retrace(&old, &[POLL; 1009], LENT, Wrong::Nothing).told, [10, 2560, 0, 0]);
+    assert_eq!(retrace(&old, &[99; 4097], LENT, Wrong::Nothing).told, [9, 4097, 0, 0]);
+    assert_eq!(retrace(&old, &[POLL, 1], LENT, Wrong::Nothing).told, [7, 1, 0, 0]);
+    assert_eq!(retrace(&file(&[99]), &[POLL, 1], LENT, Wrong::Nothing).told, [7, 0, 0, 0]);
+}
+
+#[test]
+fn a_setup_changed_by_hand_is_mended() {
+    let old = file(&[POLL; 4]);
+    let mut changed = old.clone();
+    changed[9] = 8;
+    changed[600] ^= 1;
+    let left = mend(&changed, LENT, Wrong::Nothing);
+    let places: Vec<usize> = (0..1536).filter(|place| left.out[*place] != changed[*place]).collect();
+    assert_eq!((left.told, places), (vec![0, 0, 0, 1536], vec![510]));
+}
+
+#[test]
+fn listings_in_memory() {
+    let lent = Lent { room: TEXT_ROOM, results: 7 };
+    let four = file(&[POLL; 4]);
+    let text = list(&four, Wrong::Nothing).text.into_bytes();
+    let left = put(&four, four.len() as u64, lent, Wrong::Nothing);
+    assert_eq!(left.told, [0, 0, 0, text.len() as u64, 4, 4, UNTOUCHED_WORD]);
+    assert_eq!((left.fits, left.out), (true, text));
+    let left = put(&[0; 7681], 1 << 40, lent, Wrong::Nothing);
+    assert_eq!(left.out, b"refused 11 1099511627776\n");
+    assert_eq!(left.told, [11, 1 << 40, 0, 25, 0, 0, UNTOUCHED_WORD]);
+    for lent in [Lent { room: TEXT_ROOM - 1, results: 6 }, Lent { room: TEXT_ROOM, results: 5 }] {
+        assert_eq!(put(&four, 1536, lent, Wrong::Nothing), lent.alone());
+    }
 }
 
 #[test]

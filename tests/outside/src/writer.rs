@@ -40,7 +40,8 @@ pub struct Written {
     pub out: Vec<u8>,
 }
 
-fn refused(refusal: Refusal, room: usize) -> Written {
+/// A refused writing leaves the buffer as it was.
+pub fn refused(refusal: Refusal, room: usize) -> Written {
     let [number, place, second] = refusal.told();
     Written { told: [number, place, second, 0], out: vec![UNTOUCHED; room] }
 }
@@ -76,7 +77,8 @@ fn tested(wanted: &Wanted, room: usize, wrong: Wrong) -> Result<(), Refusal> {
     fits(wanted, room, wrong)
 }
 
-fn held(wanted: &Wanted, wrong: Wrong) -> Result<(), Refusal> {
+/// 2, 3, 14, 1, 4, 5, 6, 9, 7.
+pub fn held(wanted: &Wanted, wrong: Wrong) -> Result<(), Refusal> {
     let Wanted { source, offered, trace } = wanted;
     let standard = *source != 0;
     if wrong == Wrong::LengthBeforeStates && !standard {

@@ -200,7 +200,7 @@ fn mend(file: &mut [u8], place: usize) {
 
 // RANDOM ONES
 
-fn content(random: &mut Random) -> Content {
+pub fn content(random: &mut Random) -> Content {
     let mut content = if random.chance(1, 10) { files::long_content(random) } else { files::content(random) };
     // longer traces than a search would like; here nothing is searched
     if random.chance(1, 4) && !content.events.is_empty() {
@@ -229,16 +229,20 @@ pub fn wanted(random: &mut Random) -> Wanted {
     wanted
 }
 
-pub fn written(random: &mut Random) -> Case {
-    let wanted = wanted(random);
-    let needed = wanted.needed();
-    let room = match random.below(10) {
-        0 => needed - 1,
+/// Room that is short, just enough or more.
+pub fn room(random: &mut Random, needed: usize) -> usize {
+    match random.below(10) {
+        0 => needed.saturating_sub(1),
         1 => random.below(needed),
         2..=4 => needed,
         5 => needed + 1,
         _ => needed + random.below(1000),
-    };
+    }
+}
+
+pub fn written(random: &mut Random) -> Case {
+    let wanted = wanted(random);
+    let room = room(random, wanted.needed());
     write(wanted, room)
 }
 

@@ -2,8 +2,23 @@
 //! demands shut out, from the orders and limits of documents 01 and 02. The generated cases must tell every one of them
 //! apart from the right implementation; a case list that cannot is too weak.
 
+/// A wrong monitor with its name and what it does; and the functions that it is wrong of, if only these come into question.
+pub struct Entry {
+    pub wrong: Wrong,
+    pub name: &'static str,
+    pub does: &'static str,
+    only: &'static [&'static str],
+}
+
+impl Entry {
+    /// Whether it may be wrong of this function.
+    pub fn bears_on(&self, function: &str) -> bool {
+        self.only.is_empty() || self.only.contains(&function)
+    }
+}
+
 macro_rules! wrong_monitors {
-    ($($name:ident: $does:literal,)*) => {
+    ($($name:ident $(of $($function:literal)+)?: $does:literal,)*) => {
         #[derive(Clone, Copy, PartialEq, Eq, Debug)]
         pub enum Wrong {
             /// The right implementation.
@@ -11,8 +26,10 @@ macro_rules! wrong_monitors {
             $($name,)*
         }
 
-        /// Every wrong monitor with its name and what it does.
-        pub const ALL: &[(Wrong, &str, &str)] = &[$((Wrong::$name, stringify!($name), $does),)*];
+        /// Every wrong monitor.
+        pub const ALL: &[Entry] = &[$(
+            Entry { wrong: Wrong::$name, name: stringify!($name), does: $does, only: &[$($($function),+)?] },
+        )*];
     };
 }
 
@@ -50,6 +67,7 @@ wrong_monitors! {
     InvalidBeforeLimit: "tests 7 before 9",
     LossesBeforeWaiting: "tests 6 before 5",
     LengthBeforeStates: "tests 1 before 2",
+    BoundsBeforeEntries: "tests 5 and 6 before 4",
     EntriesByColumn: "reads the entries for 4 column by column",
     OutputsBeforeInputs: "looks at outputs before inputs for 3",
     RoomBeforeEvents: "tests 10 before 7",
@@ -129,6 +147,30 @@ wrong_monitors! {
     BoundsSwapped: "writes c for B and B for c",
     SourceLost: "writes source 0 for the standard box",
     StandardWrittenOut: "writes the rows of the standard box",
+    // House files made from others.
+    RebindReads of "rebind": "rebinds what the reader reads, and no other file",
+    RebindOwnBounds of "rebind": "refuses to rebind a file for its own bounds",
+    RebindTellsOwn of "rebind": "tells the file's own bounds with 5 and 6",
+    RebindBoundsFirst of "rebind": "tests the new bounds before the file",
+    RebindBoundsBeforeCounts of "rebind": "tests the new bounds before 2, 3, 14, 1 and 4",
+    RebindBoundsLast of "rebind": "tests the new bounds after the file's trace",
+    RebindKeepsLosses of "rebind": "sets B and keeps c",
+    RebindKeepsCheck of "rebind": "sets the bounds and keeps the check",
+    RetraceTraceOverlooked of "retrace": "does not look at the old trace",
+    RetraceBoundsOverlooked of "retrace": "does not look at the bounds before it puts in a trace",
+    RetraceNumberFirst of "retrace": "counts the new trace before it looks at the file",
+    RetraceInvalidFirst of "retrace": "tests 7 before 9 of the new trace",
+    RetraceRoomOfOld of "retrace": "asks for the room of the old file",
+    RetraceAppends of "retrace": "puts the new trace after the old one",
+    RetraceTailKept of "retrace": "leaves blocks of the old trace behind a shorter one",
+    MendEmpty of "mend": "takes a file without blocks",
+    MendRefusesChecks of "mend": "refuses a file for the check of a later block",
+    MendRefusesParts of "mend": "refuses a block 0 of which a part is wrong",
+    MendAllChecks of "mend": "puts the checks of all blocks right",
+    MendClearsFill of "mend": "puts the fill of block 0 right too",
+    MendLowByte of "mend": "puts the low byte of the check right only",
+    MendBlockAlone of "mend": "writes block 0 alone",
+    MendSparesRight of "mend": "writes nothing where the check is right",
     // Memory handed over.
     WritesWhenRefused: "writes what fits although the buffer is too short",
     ClearsRest: "sets later bytes of a buffer to 0",
@@ -138,6 +180,12 @@ wrong_monitors! {
     RefusedOpeningClearsWords: "puts zeros over the session's words with a refused opening",
     RefusedOpeningClearsBytes: "puts zeros over the session's bytes with a refused opening",
     RefusedFeedCleared: "hands out a session of zeros with a refused feed",
+    ResultsOneMore of "rebind" "retrace" "mend" "listing": "answers false to results that are just long enough",
+    ResultsInPart of "rebind" "retrace" "mend" "listing": "tells what it can in results that are too short",
+    ResultsCleared of "rebind" "retrace" "mend" "listing": "sets later results to 0",
+    WritesWithoutResults of "rebind" "retrace" "mend" "listing": "writes although the results are too short",
+    TextRoomOfText of "listing": "asks for no more room than the text needs",
+    TextRoomOneMore of "listing": "answers false to room for the text that is just enough",
     // The listing.
     ListingStops: "leaves out the events after the flag",
     ListingShouts: "writes upper-case digits",
@@ -147,6 +195,13 @@ wrong_monitors! {
     ListingNoOffset: "leaves out the offset for 20 to 23",
     ListingNoLastOffset: "leaves out the offset for 23",
     ListingOffsetFirst: "writes the offset before the block",
+    ListingKeptLength of "listing": "tells with 11 how much of the file was lent",
+    ListingRefusedUnsaid of "listing": "writes no line for a refused file",
+    ListingNumberless of "listing": "tells no number for a refused file",
+    ListingFlagPlace of "listing": "tells the flag's place without one more",
+    ListingCountsSwapped of "listing": "tells the events before the length of the text",
+    ListingCountsUnended of "listing": "does not count the last line feed",
+    ListingCountsLines of "listing": "counts lines for events",
     // Clauses of soundness, each overlooked by one monitor.
     UnsoundStates: "overlooks the session's count of states",
     UnsoundInputs: "overlooks the session's count of inputs",
@@ -170,5 +225,5 @@ wrong_monitors! {
 
 /// The wrong monitor of that name.
 pub fn named(name: &str) -> Option<Wrong> {
-    ALL.iter().find(|entry| entry.1 == name).map(|entry| entry.0)
+    ALL.iter().find(|entry| entry.name == name).map(|entry| entry.wrong)
 }
