@@ -49,7 +49,7 @@ pub enum Answer {
 
 /// The functions, in the order in which the driver numbers them, each with the refusal numbers that
 /// it can give.
-pub const FUNCTIONS: &[(&str, &[u64])] = &[
+pub const FUNCTIONS: [(&str, &[u64]); 14] = [
     ("open", &[1, 2, 3, 4, 5, 6]),
     ("feed", &[7, 8, 9]),
     ("run", &[1, 2, 3, 4, 5, 6, 7, 9, 10]),

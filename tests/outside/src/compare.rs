@@ -172,11 +172,11 @@ fn started(start: &Start, tally: &mut Tally) -> Option<Driver> {
 /// How many of a function's cases tell a wrong monitor apart, function by function.
 pub type Counts = [usize; FUNCTIONS.len()];
 
-/// The counts of each wrong monitor, in the order of wrong::ALL; and how many cases there were. Every processor takes the next batch.
+/// The counts of each wrong monitor, in the order of wrong::all(); and how many cases there were. Every processor takes the next batch.
 pub fn told_apart(batches: &mut (dyn Iterator<Item = Vec<Case>> + Send)) -> (Vec<Counts>, usize) {
     let left = Mutex::new(batches);
     let workers = thread::available_parallelism().map_or(1, |count| count.get());
-    let mut counts = vec![[0; FUNCTIONS.len()]; wrong::ALL.len()];
+    let mut counts = vec![[0; FUNCTIONS.len()]; wrong::all().count()];
     let mut all = 0;
     thread::scope(|scope| {
         let parts: Vec<_> = (0..workers).map(|_| scope.spawn(|| told_apart_of(&left))).collect();
@@ -193,15 +193,16 @@ pub fn told_apart(batches: &mut (dyn Iterator<Item = Vec<Case>> + Send)) -> (Vec
 
 /// The same of the batches that this worker is the first to take.
 fn told_apart_of(left: &Mutex<&mut (dyn Iterator<Item = Vec<Case>> + Send)>) -> (Vec<Counts>, usize) {
-    let mut counts = vec![[0; FUNCTIONS.len()]; wrong::ALL.len()];
+    let mut counts = vec![[0; FUNCTIONS.len()]; wrong::all().count()];
     let mut all = 0;
     while let Some(cases) = next(left) {
         all += cases.len();
         let right: Vec<Answer> = cases.iter().map(|case| case.answer(Wrong::Nothing)).collect();
-        for (counts, entry) in counts.iter_mut().zip(wrong::ALL) {
+        for (counts, monitor) in counts.iter_mut().zip(wrong::all()) {
+            let bears = FUNCTIONS.map(|(name, _)| monitor.bears_on(name));
             for (case, right) in cases.iter().zip(&right) {
                 let function = case.function();
-                if entry.bears_on(FUNCTIONS[function].0) && case.answer(entry.wrong) != *right {
+                if bears[function] && case.answer(monitor.wrong) != *right {
                     counts[function] += 1;
                 }
             }

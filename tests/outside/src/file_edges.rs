@@ -61,7 +61,7 @@ pub fn edges(files: &Files) -> Vec<Case> {
 /// Each number of block 0 one below and one above its range, alone and every two at once; rows and
 /// events too many, too few and not valid.
 fn content_edges() -> Vec<Vec<u8>> {
-    let faults: [fn(&mut Content); 22] = [
+    let faults: [fn(&mut Content); 23] = [
         |_| {},
         |content| content.states = 0,
         |content| content.states = 65,
@@ -82,6 +82,7 @@ fn content_edges() -> Vec<Vec<u8>> {
         |content| content.source = 2,
         |content| content.rows.push(254),
         |content| content.rows.truncate(5),
+        |content| content.rows.iter_mut().take(1).for_each(|entry| *entry = 254),
         |content| content.events.push(127),
         |content| content.events.insert(1, 255),
     ];

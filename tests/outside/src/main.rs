@@ -38,7 +38,7 @@ use case::{Case, FUNCTIONS};
 use compare::{Counts, Start, Tally};
 use std::process::ExitCode;
 use std::time::{Duration, Instant};
-use wrong::{Entry, Wrong};
+use wrong::{Monitor, Wrong};
 
 const USAGE: &str =
     "outside --driver PATH.. | --self [--as WRONG]   compare the drivers at these paths, or this package itself
@@ -190,7 +190,7 @@ fn apart(counts: &[Counts], of: usize, passed: &mut usize, failed: &mut usize) {
     println!("wrong monitors, and how many of {of} cases tell them apart:");
     let names: String = FUNCTIONS.iter().map(|(name, _)| format!("{name:>9}")).collect();
     println!("   all{names}");
-    for (counts, Entry { name, does, .. }) in counts.iter().zip(wrong::ALL) {
+    for (counts, Monitor { name, does, .. }) in counts.iter().zip(wrong::all()) {
         let all: usize = counts.iter().sum();
         let each: String = counts.iter().map(|count| format!("{count:9}")).collect();
         println!("{all:6}{each}  {name}: {does}");

@@ -2,39 +2,45 @@
 //! demands shut out, from the orders and limits of documents 01 and 02. The generated cases must tell every one of them
 //! apart from the right implementation; a case list that cannot is too weak.
 
-/// A wrong monitor with its name and what it does; and the functions that it is wrong of, if only these come into question.
-pub struct Entry {
+/// Wrong monitors with their names and what they do; and the functions that they can be wrong of, none where it may be any.
+struct Group {
+    of: &'static [&'static str],
+    monitors: &'static [(Wrong, &'static str, &'static str)],
+}
+
+/// One of them.
+pub struct Monitor {
     pub wrong: Wrong,
     pub name: &'static str,
     pub does: &'static str,
-    only: &'static [&'static str],
+    of: &'static [&'static str],
 }
 
-impl Entry {
-    /// Whether it may be wrong of this function.
+impl Monitor {
+    /// Whether it comes into question for this function. To others it gives the right answers.
     pub fn bears_on(&self, function: &str) -> bool {
-        self.only.is_empty() || self.only.contains(&function)
+        self.of.is_empty() || self.of.contains(&function)
     }
 }
 
 macro_rules! wrong_monitors {
-    ($($name:ident $(of $($function:literal)+)?: $does:literal,)*) => {
+    ($([$($function:literal),*] $($name:ident: $does:literal,)*)*) => {
         #[derive(Clone, Copy, PartialEq, Eq, Debug)]
         pub enum Wrong {
             /// The right implementation.
             Nothing,
-            $($name,)*
+            $($($name,)*)*
         }
 
-        /// Every wrong monitor.
-        pub const ALL: &[Entry] = &[$(
-            Entry { wrong: Wrong::$name, name: stringify!($name), does: $does, only: &[$($($function),+)?] },
+        const GROUPS: &[Group] = &[$(
+            Group { of: &[$($function),*], monitors: &[$((Wrong::$name, stringify!($name), $does),)*] },
         )*];
     };
 }
 
 wrong_monitors! {
     // The moves.
+    ["feed", "run", "list", "listing"]
     FullLineThenTake: "adds to a full line and only then takes",
     TakesNewest: "takes from the newest end of the line",
     OutputResetsRun: "an output resets the run of losses",
@@ -49,14 +55,17 @@ wrong_monitors! {
     TakesBeforeEvent: "takes and loses before the event too",
     MovesOnce: "takes or loses at most once after an event",
     // What the demands shut out.
-    RefusesValid: "refuses the last output symbol",
+    ["feed", "run", "list", "listing"]
     FixedVerdict: "always answers the one configuration (0,0,0)",
     Unmoved: "hands the session back unmoved",
     RepeatsFirst: "judges the first event and then repeats itself",
     InventsWaiting: "always says that 0 to B inputs may wait",
     InventsRun: "always says that 0 to c - 1 inputs may be lost",
     EveryState: "calls every state plausible",
+    []
+    RefusesValid: "refuses the last output symbol",
     // Flags and counts.
+    ["feed", "run", "list", "listing"]
     FlagOneLate: "tells the flag one place late",
     FlagAtLast: "moves the flag to the last event",
     SetRefilled: "starts anew after a flag",
@@ -64,6 +73,7 @@ wrong_monitors! {
     HeldStops: "does not keep up the held inputs after a flag",
     HeldForgetsOldest: "holds one input too few",
     // Orders of refusal.
+    []
     InvalidBeforeLimit: "tests 7 before 9",
     LossesBeforeWaiting: "tests 6 before 5",
     LengthBeforeStates: "tests 1 before 2",
@@ -80,6 +90,7 @@ wrong_monitors! {
     LimitOneHigh: "takes one event more than the limit",
     InvalidFromOne: "counts the place of 7 from 1",
     // House files.
+    ["read", "list", "write", "again", "rebind", "retrace", "mend", "listing"]
     WeightsFromZero: "weighs the check's bytes from 0",
     CheckByWord: "takes the check modulo 65,536",
     CheckReduced: "reduces the stored check before comparing",
@@ -91,6 +102,7 @@ wrong_monitors! {
     UsedUpToPayload: "lets block 0 use more than 6 bytes",
     BlocksSixteen: "reads files of 16 blocks",
     // Which part of a block is told, and where.
+    ["read", "list", "again", "rebind", "retrace", "listing"]
     ThirteenStill: "still gives 13",
     NumberBeforeKind: "tests 21 before 20",
     OrderLast: "looks at the block order after all other parts",
@@ -108,10 +120,12 @@ wrong_monitors! {
     OffsetInPayload: "counts the offset of 23 from the payload's start",
     OffsetInFile: "counts the offset from the file's start",
     // The standard box.
+    ["list", "standard", "listing"]
     RepeatIgnored: "has the standard box ignore a poll that it has already met",
     RepeatNotInRowZero: "has the standard box repeat no report in row 0",
     RepeatsWhileUnreported: "has the standard box repeat a report while others are unreported",
     // Captures.
+    ["import", "hand"]
     OrderIgnored: "reads every capture least byte first",
     LinkLowByte: "looks at the low byte of the link type only",
     LinkLowHalf: "looks at the low half of the link type only",
@@ -133,6 +147,7 @@ wrong_monitors! {
     CountForSecond: "tells the events of an import in place of the second place",
     ThereForSecond: "tells whether there is an event in place of the second place",
     // Written files.
+    ["write", "again", "rebind", "retrace", "mend"]
     CutToBytes: "cuts counts and bounds to a byte before it tests them",
     RoomFirst: "tests 10 before all other numbers",
     RoomForMost: "asks for the room of the longest file",
@@ -148,45 +163,54 @@ wrong_monitors! {
     SourceLost: "writes source 0 for the standard box",
     StandardWrittenOut: "writes the rows of the standard box",
     // House files made from others.
-    RebindReads of "rebind": "rebinds what the reader reads, and no other file",
-    RebindOwnBounds of "rebind": "refuses to rebind a file for its own bounds",
-    RebindTellsOwn of "rebind": "tells the file's own bounds with 5 and 6",
-    RebindBoundsFirst of "rebind": "tests the new bounds before the file",
-    RebindBoundsBeforeCounts of "rebind": "tests the new bounds before 2, 3, 14, 1 and 4",
-    RebindBoundsLast of "rebind": "tests the new bounds after the file's trace",
-    RebindKeepsLosses of "rebind": "sets B and keeps c",
-    RebindKeepsCheck of "rebind": "sets the bounds and keeps the check",
-    RetraceTraceOverlooked of "retrace": "does not look at the old trace",
-    RetraceBoundsOverlooked of "retrace": "does not look at the bounds before it puts in a trace",
-    RetraceNumberFirst of "retrace": "counts the new trace before it looks at the file",
-    RetraceInvalidFirst of "retrace": "tests 7 before 9 of the new trace",
-    RetraceRoomOfOld of "retrace": "asks for the room of the old file",
-    RetraceAppends of "retrace": "puts the new trace after the old one",
-    RetraceTailKept of "retrace": "leaves blocks of the old trace behind a shorter one",
-    MendEmpty of "mend": "takes a file without blocks",
-    MendRefusesChecks of "mend": "refuses a file for the check of a later block",
-    MendRefusesParts of "mend": "refuses a block 0 of which a part is wrong",
-    MendAllChecks of "mend": "puts the checks of all blocks right",
-    MendClearsFill of "mend": "puts the fill of block 0 right too",
-    MendLowByte of "mend": "puts the low byte of the check right only",
-    MendBlockAlone of "mend": "writes block 0 alone",
-    MendSparesRight of "mend": "writes nothing where the check is right",
+    ["rebind"]
+    RebindReads: "rebinds what the reader reads, and no other file",
+    RebindOwnBounds: "refuses to rebind a file for its own bounds",
+    RebindTellsOwn: "tells the file's own bounds with 5 and 6",
+    RebindBoundsFirst: "tests the new bounds before the file",
+    RebindBoundsBeforeCounts: "tests the new bounds before 2, 3, 14, 1 and 4",
+    RebindBoundsLast: "tests the new bounds after the file's trace",
+    RebindKeepsLosses: "sets B and keeps c",
+    RebindKeepsCheck: "sets the bounds and keeps the check",
+    ["retrace"]
+    RetraceTraceOverlooked: "does not look at the old trace",
+    RetraceBoundsOverlooked: "does not look at the bounds before it puts in a trace",
+    RetraceNumberFirst: "counts the new trace before it looks at the file",
+    RetraceInvalidFirst: "tests 7 before 9 of the new trace",
+    RetraceRoomOfOld: "asks for the room of the old file",
+    RetraceAppends: "puts the new trace after the old one",
+    RetraceTailKept: "leaves blocks of the old trace behind a shorter one",
+    ["mend"]
+    MendEmpty: "takes a file without blocks",
+    MendRefusesChecks: "refuses a file for the check of a later block",
+    MendRefusesParts: "refuses a block 0 of which a part is wrong",
+    MendAllChecks: "puts the checks of all blocks right",
+    MendClearsFill: "puts the fill of block 0 right too",
+    MendLowByte: "puts the low byte of the check right only",
+    MendBlockAlone: "writes block 0 alone",
+    MendSparesRight: "writes nothing where the check is right",
     // Memory handed over.
+    []
     WritesWhenRefused: "writes what fits although the buffer is too short",
     ClearsRest: "sets later bytes of a buffer to 0",
     TellsWhenRefused: "tells counts of a refused file",
+    ["open"]
     RefusedOpeningKept: "hands out a session with a refused opening",
     RefusedOpeningCleared: "puts zeros over the session with a refused opening",
     RefusedOpeningClearsWords: "puts zeros over the session's words with a refused opening",
     RefusedOpeningClearsBytes: "puts zeros over the session's bytes with a refused opening",
+    ["feed"]
     RefusedFeedCleared: "hands out a session of zeros with a refused feed",
-    ResultsOneMore of "rebind" "retrace" "mend" "listing": "answers false to results that are just long enough",
-    ResultsInPart of "rebind" "retrace" "mend" "listing": "tells what it can in results that are too short",
-    ResultsCleared of "rebind" "retrace" "mend" "listing": "sets later results to 0",
-    WritesWithoutResults of "rebind" "retrace" "mend" "listing": "writes although the results are too short",
-    TextRoomOfText of "listing": "asks for no more room than the text needs",
-    TextRoomOneMore of "listing": "answers false to room for the text that is just enough",
+    ["rebind", "retrace", "mend", "listing"]
+    ResultsOneMore: "answers false to results that are just long enough",
+    ResultsInPart: "tells what it can in results that are too short",
+    ResultsCleared: "sets later results to 0",
+    WritesWithoutResults: "writes although the results are too short",
+    ["listing"]
+    TextRoomOfText: "asks for no more room than the text needs",
+    TextRoomOneMore: "answers false to room for the text that is just enough",
     // The listing.
+    ["list", "listing"]
     ListingStops: "leaves out the events after the flag",
     ListingShouts: "writes upper-case digits",
     ListingOneDash: "writes one dash for both pairs",
@@ -195,14 +219,16 @@ wrong_monitors! {
     ListingNoOffset: "leaves out the offset for 20 to 23",
     ListingNoLastOffset: "leaves out the offset for 23",
     ListingOffsetFirst: "writes the offset before the block",
-    ListingKeptLength of "listing": "tells with 11 how much of the file was lent",
-    ListingRefusedUnsaid of "listing": "writes no line for a refused file",
-    ListingNumberless of "listing": "tells no number for a refused file",
-    ListingFlagPlace of "listing": "tells the flag's place without one more",
-    ListingCountsSwapped of "listing": "tells the events before the length of the text",
-    ListingCountsUnended of "listing": "does not count the last line feed",
-    ListingCountsLines of "listing": "counts lines for events",
+    ["listing"]
+    ListingKeptLength: "tells with 11 how much of the file was lent",
+    ListingRefusedUnsaid: "writes no line for a refused file",
+    ListingNumberless: "tells no number for a refused file",
+    ListingFlagPlace: "tells the flag's place without one more",
+    ListingCountsSwapped: "tells the events before the length of the text",
+    ListingCountsUnended: "does not count the last line feed",
+    ListingCountsLines: "counts lines for events",
     // Clauses of soundness, each overlooked by one monitor.
+    ["feed"]
     UnsoundStates: "overlooks the session's count of states",
     UnsoundInputs: "overlooks the session's count of inputs",
     UnsoundOutputs: "overlooks the session's count of outputs",
@@ -223,7 +249,42 @@ wrong_monitors! {
     UnsoundUnflagged: "overlooks an empty set without a flag",
 }
 
+/// Every wrong monitor, in the order above.
+pub fn all() -> impl Iterator<Item = Monitor> {
+    GROUPS.iter().flat_map(|Group { of, monitors }| {
+        monitors.iter().map(|(wrong, name, does)| Monitor { wrong: *wrong, name, does, of })
+    })
+}
+
 /// The wrong monitor of that name.
 pub fn named(name: &str) -> Option<Wrong> {
-    ALL.iter().find(|entry| entry.name == name).map(|entry| entry.wrong)
+    all().find(|monitor| monitor.name == name).map(|monitor| monitor.wrong)
+}
+
+#[cfg(test)]
+mod tests {
+    use super::*;
+    use crate::case::FUNCTIONS;
+    use crate::generate;
+
+    /// What a group does not name is answered rightly, so that it need not be tried.
+    #[test]
+    fn groups_name_every_function_they_can_be_wrong_of() {
+        let mut tried = 0;
+        for case in generate::batch(2, 0).iter().step_by(3) {
+            let right = case.answer(Wrong::Nothing);
+            for monitor in all().filter(|monitor| !monitor.bears_on(FUNCTIONS[case.function()].0)) {
+                tried += 1;
+                assert!(case.answer(monitor.wrong) == right, "{} of {}", monitor.name, FUNCTIONS[case.function()].0);
+            }
+        }
+        assert!(tried > 10_000);
+    }
+
+    #[test]
+    fn groups_name_functions_that_there_are() {
+        for function in GROUPS.iter().flat_map(|group| group.of) {
+            assert!(FUNCTIONS.iter().any(|(name, _)| name == function), "{function}");
+        }
+    }
 }
