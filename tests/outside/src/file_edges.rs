@@ -336,6 +336,11 @@ fn most_edges() -> Vec<Vec<u8>> {
     let mut short = written(&small(vec![0; 13 * PAYLOAD]));
     short.extend(block(EVENTS, 15, &[0]));
     files.push(short);
+    // Blocks hold more rows, or more events, than a good file has.
+    files.push(written(&standard(vec![0; 14 * PAYLOAD])));
+    for rows in [2049, 4097, 14 * PAYLOAD] {
+        files.push(written(&Content { rows: vec![0; rows], ..small(Vec::new()) }));
+    }
     files
 }
 

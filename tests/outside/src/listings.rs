@@ -71,6 +71,7 @@ fn length_edges() -> Vec<Case> {
         for kept in [0, 512, 700, good.len()] {
             cases.push(Case::Listing { file: good[..kept].to_vec(), length, lent: LENT });
         }
+        cases.push(Case::Listing { file: long[..ENOUGH].to_vec(), length, lent: LENT });
     }
     cases
 }

@@ -42,6 +42,13 @@ fn to_rebind(file: &[u8], waiting: u64, losses: u64, wrong: Wrong) -> Result<Wan
     wanted.offered.losses = losses;
     match wrong {
         Wrong::RebindReads => house::judged(&content, wrong)?,
+        Wrong::RebindRoomOfGood => {
+            for (bytes, room) in [(&content.rows, 2048), (&content.events, 4096)] {
+                if bytes.len() > room {
+                    refuse(10, bytes.len() as u64)?;
+                }
+            }
+        }
         Wrong::RebindBoundsBeforeCounts => wanted.offered.bounds(wrong)?,
         Wrong::RebindBoundsLast => house::judged(&Content { waiting: 1, losses: 1, ..content.clone() }, wrong)?,
         Wrong::RebindOwnBounds => {

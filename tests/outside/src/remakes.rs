@@ -172,6 +172,10 @@ fn mended_lengths() -> Vec<Case> {
             }
         }
     }
+    for blocks in 1..=17 {
+        let noise: Vec<u8> = (0..BLOCK * blocks).map(|_| random.byte()).collect();
+        cases.push(mend(&noise, noise.len()));
+    }
     cases
 }
 

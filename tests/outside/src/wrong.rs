@@ -169,6 +169,7 @@ wrong_monitors! {
     RebindTellsOwn: "tells the file's own bounds with 5 and 6",
     RebindBoundsFirst: "tests the new bounds before the file",
     RebindBoundsBeforeCounts: "tests the new bounds before 2, 3, 14, 1 and 4",
+    RebindRoomOfGood: "has no room for more rows or events than a good file has",
     RebindBoundsLast: "tests the new bounds after the file's trace",
     RebindKeepsLosses: "sets B and keeps c",
     RebindKeepsCheck: "sets the bounds and keeps the check",
