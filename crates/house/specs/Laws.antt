@@ -136,7 +136,7 @@ OneUnpacking =
     (s d e : List ℕ) (r₁ r₂ : Reading) (d₁ d₂ e₁ e₂ : List ℕ) → Unpacks s d e r₁ d₁ e₁ → Unpacks s d e r₂ d₂ e₂
     → (r₁ ≡ r₂) × (d₁ ≡ d₂) × (e₁ ≡ e₂)
 
--- A file of a form that is refused leaves nothing.
+-- Where the form is refused, nothing is handed out.
 abbrev pub NothingUnpacked : Type 0
 NothingUnpacked = (s d e : List ℕ) (r : Refusal) (d′ e′ : List ℕ) → Unpacks s d e (Refused r) d′ e′ → (d′ ≡ d) × (e′ ≡ e)
 

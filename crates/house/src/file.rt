@@ -15,7 +15,7 @@ use table::Test;
 
 const MOST_BLOCKS: usize = 15;
 
-const MOST_BYTES: usize = MOST_BLOCKS * BLOCK;
+pub const MOST_BYTES: usize = MOST_BLOCKS * BLOCK;
 
 // Block k.
 fn block_at(file: &[u8], k: usize) -> &[u8]

@@ -16,6 +16,7 @@ pub use answer::Source;
 use answer::is_good;
 pub use answer::tell;
 pub use content::test;
+pub use file::MOST_BYTES;
 pub use file::whole;
 pub use flaw::Flaw;
 

@@ -10,13 +10,11 @@ ghost use Rattle.writer.specs.Writing.{Writes};
 ghost use Rattle.remake.specs.Mending.{Mends};
 ghost use Rattle.remake.specs.Remaking.{Rebinds, Retraces};
 use house::Contents;
+use house::MOST_BYTES;
 use house::Reading;
 use house::Refusal;
 use lent::front;
 use writer::Writing;
-
-// The most bytes of rows, or of events, that blocks hold: no more than the longest file has.
-const BLOCK_ROOM: usize = 7680;
 
 // The most bytes of rows, and the most events, that a good file gives.
 const ROW_ROOM: usize = 2048;
@@ -48,12 +46,13 @@ fn put<'a>(
     )
 }
 
-// Writes the house file `file` with these bounds in place of its own, which are not looked at.
+// Writes the house file `file` with these bounds in place of its own, which are not looked at. Blocks hold no more rows, and no more events,
+// than the longest file has bytes.
 pub fn rebound(file: &[u8], waiting: usize, losses: usize, out: &mut [u8]) -> Writing
     ensures { λ w. ⌜ Rebinds (now (file .entry)) waiting losses (now (out .entry)) w (now (out .exit)) ⌝ }
 {
-    let mut rows = [0u8; BLOCK_ROOM];
-    let mut events = [0u8; BLOCK_ROOM];
+    let mut rows = [0u8; MOST_BYTES];
+    let mut events = [0u8; MOST_BYTES];
     let reading = house::unpack(file, &mut rows, &mut events);
     match reading {
         Reading::Refused(r) => Writing::Refused(r),
