@@ -18,7 +18,7 @@
  * nothing is written. Else it answers true, and the results, of which
  * rillmoth_standard has none, begin with RILLMOTH_NUMBER, RILLMOTH_PLACE and RILLMOTH_SECOND: zeros, or a refusal's number and places. A
  * refusal is an ordinary answer: it judges nothing, writes the results and nothing else, and leaves a session and every buffer as they
- * were. Results beyond those that a function has keep their values.
+ * were (but that rillmoth_listing lists a refused file too, in one line). Results beyond those that a function has keep their values.
  *
  * For 64-bit processors: size_t has 64 bits. */
 #ifndef RILLMOTH_H
@@ -233,7 +233,7 @@ bool rillmoth_hand(const uint8_t *capture, size_t capture_count, size_t place, u
 
 /* Lists a house file: all the text of its listing (README.md, "Reading a listing"), to the start of `text`.
  *   file       its bytes; of a file that is longer, the first RILLMOTH_MOST_FILE_BYTES + 1 are enough
- *   length     how many bytes it has, which is told if it is too long
+ *   length     how many bytes it has: told with 11, and looked at nowhere else
  *   text       at least RILLMOTH_LISTING_BYTES bytes; those after the text keep their values
  *   results    at least RILLMOTH_LISTING_RESULTS words: number, place, second place, and those named below
  * A refused file is listed too: its text is one line, and its number and places are in the results. */

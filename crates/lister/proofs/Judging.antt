@@ -7,7 +7,8 @@ use native.Mathlib.Omega.{arith}
 use lib.Dec.{leb}
 use lib.ListN.{length, take}
 use borrow.Author.Tests.{leb-false}
-use Rattle.lent.specs.Lent.{front}
+use Rattle.lent.specs.Lent.{front, put-at}
+use Rattle.lent.proofs.Laws.{put-start, front-stands}
 use Rattle.table.specs.declared.answer.Test.{Test}
 use Rattle.run.specs.declared.Ran.{Ran}
 use Rattle.model.specs.Table.{Valid}
@@ -22,6 +23,7 @@ use Rattle.run.specs.Run.{run-test, refused as run-refused, ran as run-ran}
 use Rattle.run.specs.Laws.{GoodTrace}
 use Rattle.session.proofs.Laws.{opening-passes}
 use Rattle.run.proofs.Laws.{run-passes, room-decides}
+use Rattle.standard.specs.Box.{standard-rows}
 use Rattle.standard.proofs.Laws.{is-valid}
 use Rattle.house.specs.File.{rows-of, events-of, contents-of}
 use Rattle.house.specs.Reading.{verdict, answer, after, Answers}
@@ -49,6 +51,13 @@ followed c rows before after r e h x =
 -- the same of rows in other words
 pub followed-by : {c : Contents} {rows rows′ trace before after : List ℕ} {j : Judged} → rows ≡ rows′ → Follows c rows trace before j after → Follows c rows′ trace before j after
 followed-by e h = rw e at h
+
+-- the standard box's rows in a room of their length
+pub settled : (d p x : List ℕ) → length d ≡ row-room → p ≡ standard-rows → x ≡ put-at d 0 p → take row-room x ≡ standard-rows
+settled d p x l e h =
+    let long : length standard-rows ≡ row-room = omega (arith, is-valid .rows) in
+    let put : x ≡ front d standard-rows = put-start d p standard-rows x (omega (arith, long, l)) e h in
+    ap (λ (k : ℕ). take k x) (sym long) ∙ ap (take (length standard-rows)) put ∙ front-stands d standard-rows .start
 
 -- what a verdict was, from the answer
 was-refused : (v : Verdict) (c : Contents) (r : Refusal) → reading.Refused r ≡ answer v c → v ≡ verdict.Refused r

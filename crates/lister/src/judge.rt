@@ -8,7 +8,7 @@ use session::Flag;
 use table::Test;
 ghost use mathlib.Core.Path.{_≡_};
 ghost use lib.ListN.{length, take};
-ghost use Rattle.lister.specs.Judging.{rows-meant, Follows, Judges};
+ghost use Rattle.lister.specs.Judging.{row-room, rows-meant, Follows, Judges};
 
 // The most bytes of rows, events and results that a house file gives.
 const ROW_ROOM: usize = 2048;
@@ -56,17 +56,29 @@ fn follow<'a>(c: Contents, rows: &'a [u8], events: &'a [u8], results: &mut [u8])
     }
 }
 
-fn follow_source<'a>(c: Contents, rows: &'a [u8], events: &'a [u8], results: &mut [u8]) -> Judged
+// Puts the standard box's rows into the room for a file's own, where they are meant, and tells how many bytes there are meant. No other room
+// is taken for them.
+fn settle(source: Source, n: usize, rows: &mut [u8]) -> usize
+    requires { ⌜ length (now rows) ≡ row-room ⌝ }
+    ensures { λ r. ⌜ take r (now (rows .exit)) ≡ rows-meant source (take n (now (rows .entry))) ⌝ }
+{
+    match source {
+        Source::Rows => n,
+        Source::Standard => {
+            let all = standard::rows();
+            lent::put_bytes(&all, rows, 0);
+            ROW_ROOM
+        }
+    }
+}
+
+fn follow_source(c: Contents, rows: &mut [u8], events: &[u8], results: &mut [u8]) -> Judged
+    requires { ⌜ length (now rows) ≡ row-room ⌝ }
     ensures { λ r. ⌜ Follows c (rows-meant (c .source) (take (c .rows) (now (rows .entry)))) (take (c .events) (now (events .entry))) (now (results .entry)) r (now (results .exit)) ⌝ }
 {
     let source = c.source;
-    match source {
-        Source::Rows => follow(c, front(rows, c.rows), events, results),
-        Source::Standard => {
-            let all = standard::rows();
-            follow(c, &all, events, results)
-        }
-    }
+    let n = settle(source, c.rows, &mut *rows);
+    follow(c, front(&*rows, n), events, results)
 }
 
 // Reads the file, and runs its trace; the events and the run's results go into the buffers.
@@ -77,6 +89,6 @@ pub(crate) fn judge(file: &[u8], events: &mut [u8], results: &mut [u8]) -> Judge
     let reading = house::read(file, &mut rows, &mut *events);
     match reading {
         Reading::Refused(r) => Judged::Refused(r),
-        Reading::Good(c) => follow_source(c, &rows, &*events, &mut *results),
+        Reading::Good(c) => follow_source(c, &mut rows, &*events, &mut *results),
     }
 }

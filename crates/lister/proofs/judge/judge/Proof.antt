@@ -52,7 +52,7 @@ same-length-3 c = search needs
 
 -- src/judge.rt:83:1
 returns-2 : tie.Need-returns-2
-returns-2 c = read-then (length-replicate {A = ℕ} 2048 0) (c .before .before .before .before .before .before .before .before .before .before .before .before .read .ensures) (c .before .before .before .before .before .before .before .reading2 .given .1) (c .before .before .follow-source .ensures)
+returns-2 c = read-then (length-replicate {A = ℕ} 2048 0) (c .before .before .before .before .before .before .before .before .before .before .before .before .before .read .ensures) (c .before .before .before .before .before .before .before .before .reading2 .given .1) (c .before .before .before .follow-source .ensures)
 
 pub judge-spec : {M : Type 1} → statement M
 judge-spec =
