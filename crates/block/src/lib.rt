@@ -1,5 +1,7 @@
 // One block of a house file, as a slice of its 512 bytes: its bytes, what it holds, and the tests of numbers 12 and 20 to 23. No function
 // asks anything of its caller: each answers every slice, of whatever length, by an equation of specs/Block.antt.
+#![tactic(auto)]
+
 ghost use Rattle.std.specs.Prelude.{◌≡◌};
 ghost use Rattle.block.specs.Block.{check, kind_fits, order_fits, used_fits, source_fits, fill_of, seen, block_test};
 

@@ -10,7 +10,7 @@ use table::Told;
 pub(crate) const MOST_EVENTS: usize = 1048576;
 
 // Why a capture is turned away. Over each variant stands when it is given, with the place told.
-#[derive(Drop)]
+#[derive(Clone, Copy)]
 pub enum Refusal {
     // 15 | header short or wrong | 0
     Header,
@@ -25,7 +25,7 @@ pub enum Refusal {
 }
 
 // What the reader hands out: an event byte, or that there is none left, or why it hands out nothing.
-#[derive(Drop)]
+#[derive(Clone, Copy)]
 pub enum Taken {
     Event(u8),
     End,
@@ -33,14 +33,14 @@ pub enum Taken {
 }
 
 // The same, with the reader's place after it.
-#[derive(Drop)]
+#[derive(Clone, Copy)]
 pub struct Handed {
     pub taken: Taken,
     pub place: usize,
 }
 
 // What a whole import answers: how many events it wrote, or why it wrote nothing.
-#[derive(Drop)]
+#[derive(Clone, Copy)]
 pub enum Imported {
     Good(usize),
     Refused(Refusal),

@@ -1,6 +1,8 @@
 // Captures that ordinary tools write: classic pcap, of which each record is one event of the tap. A reader hands out one event at a time,
 // and a whole import writes them all. No function asks anything of its caller: specs/Capture.antt says what a capture's bytes mean,
 // specs/Reading.antt what the reader answers, and specs/Importing.antt what an import does.
+#![tactic(auto)]
+
 ghost use Rattle.capture.specs.Importing.{Imports};
 
 pub mod answer;

@@ -7,7 +7,7 @@ use super::answer::{Handed, MOST_EVENTS, Refusal, Taken, after};
 use super::bytes;
 
 // The place is the next record's index.
-#[derive(Drop)]
+#[derive(Clone, Copy)]
 pub struct Reader<'a> {
     pub capture: &'a [u8],
     pub place: usize,

@@ -1,6 +1,8 @@
 // Imports each capture that an argument names, and writes what came of it: one line for a buffer with room to spare, then one for each
 // length at which number 10 may come, then what the reader hands out, call by call, and what it says at some places by itself. A line
 // that tells of a buffer ends with its digest, so that every byte of it shows.
+#![tactic(auto)]
+
 ghost use Rattle.std.specs.Prelude.{◌≤◌};
 
 use capture::{Handed, Imported, Taken, reader};

@@ -2,6 +2,8 @@
 // as its address, which may be null where the count is 0, and its count of elements. No slice that is written to lies over another. Nothing
 // else is asked: every function answers every input. It answers false exactly when the memory lent for its results is too short, and then
 // nothing is written; a refusal is an answer of true, with its number in the results.
+#![tactic(auto)]
+
 ghost use Rattle.std.specs.Prelude.{◌≡◌};
 ghost use Rattle.capture.specs.Refusals.{told_imported, count_imported, told_taken, event_taken};
 ghost use Rattle.table.specs.Refusals.{told_at};

@@ -5,7 +5,7 @@ use crate::print;
 use session::Session;
 
 // The count, and the states, waiting counts and runs as bits.
-#[derive(Drop)]
+#[derive(Clone, Copy)]
 struct Digest {
     count: u32,
     states: u64,

@@ -3,7 +3,7 @@
 // The most numbers that a line may have; those after them are left out.
 const MOST: usize = 64;
 
-#[derive(Drop)]
+#[derive(Clone, Copy)]
 pub struct Figures {
     values: [usize; MOST],
     pub count: usize,

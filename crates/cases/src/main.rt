@@ -19,6 +19,8 @@
 //     long states 2 inputs 1 outputs 2 rows 6 B 2 c 1 room 2 trace of 9 times i0
 //
 // What it must write is in the file `stdout`, which `tests/oracle.py` works out from document 01 alone.
+#![tactic(auto)]
+
 mod change;
 mod digest;
 mod feeds;

@@ -1,5 +1,7 @@
 // What programs in other languages are told in numbers: a test by a refusal's number and places, a flag by one word. No function asks
 // anything of its caller. The crates of exported functions put these numbers into the memory that is lent.
+#![tactic(auto)]
+
 ghost use Rattle.std.specs.Prelude.{◌≡◌, ◌%◌, ◌^◌, ◌<◌};
 ghost use Rattle.figures.specs.Figures.{told_test, flag_word, flag_in};
 

@@ -1,5 +1,7 @@
 // Reads each house file that an argument names, and writes what came of it: one line for buffers with room to spare, then one for
 // each pair of lengths at which number 10 may come. A line ends with a digest of each buffer, so that every byte of it shows.
+#![tactic(auto)]
+
 ghost use Rattle.std.specs.Prelude.{◌≤◌};
 
 use house::{Contents, Reading, Source};

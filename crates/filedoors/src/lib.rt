@@ -4,6 +4,8 @@
 // false exactly when the memory lent for its results, or for a listing, is too short, and then nothing is written; a refusal is an answer
 // of true, with its number in the results. The listing to a descriptor has no results, and answers a number. specs/Results.antt says what
 // the results are, and specs/Doors.antt what each function does.
+#![tactic(auto)]
+
 ghost use Rattle.std.specs.Prelude.{◌≡◌, ◌&&◌, ◌≤◌, leb};
 ghost use Rattle.lister.specs.Putting.{text_room};
 ghost use Rattle.filedoors.specs.Results.{listing_size};

@@ -1,12 +1,14 @@
 // What is told of a block that is not what it must be: of all that was seen of it, the first flaw, and that flaw's number, block and
 // offset. No function asks anything of its caller: each answers every input by an equation of specs/Flaws.antt.
+#![tactic(auto)]
+
 ghost use Rattle.std.specs.Prelude.{◌≡◌};
 ghost use Rattle.flaw.specs.Flaws.{must, of_fill, then, first_flaw, number_of, offset_of, told};
 
 use table::Told;
 
 // What is wrong with a block, in the order in which it is told. Over the variants stands the number of theirs, and the offset told.
-#[derive(Drop)]
+#[derive(Clone, Copy)]
 pub enum Flaw {
     // 12 | block check wrong | no offset
     Check,
@@ -26,21 +28,21 @@ pub enum Flaw {
 }
 
 // How the tests of a block end.
-#[derive(Drop)]
+#[derive(Clone, Copy)]
 pub enum Test {
     Passed,
     Failed(Flaw),
 }
 
 // What follows a block's used count: zeros only, or a first byte that is none, at this offset.
-#[derive(Drop)]
+#[derive(Clone, Copy)]
 pub enum Fill {
     Zero,
     Stray(usize),
 }
 
 // What was seen of a block: of each part, whether it is as it must be; `one` is byte 1.
-#[derive(Drop)]
+#[derive(Clone, Copy)]
 pub struct Seen {
     pub check: bool,
     pub kind: bool,

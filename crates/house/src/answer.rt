@@ -7,7 +7,7 @@ use flaw::Flaw;
 use table::Told;
 
 // Why a file is turned away. Over each variant stands its row of document 01's table; what the variant holds is the place told.
-#[derive(Drop)]
+#[derive(Clone, Copy)]
 pub enum Refusal {
     // 11 | file empty, not whole blocks, or over 7,680 bytes | length
     Length(usize),
@@ -21,21 +21,21 @@ pub enum Refusal {
 }
 
 // How a test of a file ends.
-#[derive(Drop)]
+#[derive(Clone, Copy)]
 pub enum Verdict {
     Passed,
     Refused(Refusal),
 }
 
 // Where the table comes from: rows in the file, or the standard box.
-#[derive(Drop)]
+#[derive(Clone, Copy)]
 pub enum Source {
     Rows,
     Standard,
 }
 
 // What a file holds: the table's counts, the bounds B and c, the source, and how many bytes of rows and events there are.
-#[derive(Drop)]
+#[derive(Clone, Copy)]
 pub struct Contents {
     pub states: u8,
     pub inputs: u8,
@@ -48,7 +48,7 @@ pub struct Contents {
 }
 
 // What reading a file answers.
-#[derive(Drop)]
+#[derive(Clone, Copy)]
 pub enum Reading {
     Good(Contents),
     Refused(Refusal),

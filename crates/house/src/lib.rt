@@ -1,6 +1,8 @@
 // The reader of house files. It answers every file: with what the file holds, or with the first of document 01's refusals.
 // A refused file leaves the caller's buffers as they were. The crate `block` has its blocks; specs/File.antt says what they hold
 // together, specs/Reading.antt what is read.
+#![tactic(auto)]
+
 ghost use Rattle.std.specs.Prelude.{◌≡◌};
 ghost use Rattle.house.specs.File.{rows_of, events_of};
 ghost use Rattle.house.specs.Reading.{handed, Answers, Unpacks};

@@ -1,5 +1,7 @@
 // Input that is read to its end, however long it is. What fits in the caller's buffer is kept, and the rest is counted, so that an input
 // that is too long is told with its true length.
+#![tactic(auto)]
+
 ghost use Rattle.std.specs.Prelude.{◌≡◌, ◌+◌, min, replicate};
 ghost use Rattle.intake.specs.Inputs.{counted, is_whole, input_of, Keeps};
 
@@ -10,14 +12,14 @@ const FILE_ROOM: usize = 7681;
 const MOST_READS: usize = 1125899906842624;
 
 // How the input ended after what was kept of it: so many bytes later, or by a read that failed.
-#[derive(Drop)]
+#[derive(Clone, Copy)]
 enum Ended {
     After(usize),
     Failed,
 }
 
 // What came of an input: whether it was read to its end, how many bytes of it were kept, and how many it has.
-#[derive(Drop)]
+#[derive(Clone, Copy)]
 pub struct Input {
     pub whole: bool,
     pub kept: usize,
@@ -32,7 +34,7 @@ pub fn file_room() -> [u8; FILE_ROOM]
 }
 
 // One read, of which nothing is kept but how it went. No bytes come at the end.
-#[derive(Drop)]
+#[derive(Clone, Copy)]
 struct Read {
     failed: bool,
     bytes: usize,
@@ -48,7 +50,7 @@ fn next(fd: i32) -> Read {
 }
 
 // What one read leaves of the count: more bytes, or how the input ended.
-#[derive(Drop)]
+#[derive(Clone, Copy)]
 enum Counted {
     More(usize),
     Over(Ended),

@@ -1,4 +1,6 @@
 // The lines of a listing as bytes. Each function answers every input with the one line that specs/Lines.antt defines.
+#![tactic(auto)]
+
 ghost use Rattle.std.specs.Prelude.{◌≡◌, [], ◌∷◌, ◌≤◌, ◌+◌, get_or};
 ghost use Rattle.lines.specs.Texts.{text_of, Adds, decimal, hexadecimal};
 ghost use Rattle.lines.specs.Lines.{space, line_feed, symbol, four, states_in, pair, has_second, second_place};

@@ -3,7 +3,7 @@ ghost use Rattle.std.specs.Prelude.{◌≡◌, [], ◌∷◌};
 ghost use Rattle.lines.specs.Texts.{text_of, Adds, decimal, hexadecimal};
 
 // The bytes, and zeros after them.
-#[derive(Drop)]
+#[derive(Clone, Copy)]
 pub struct Text {
     pub bytes: [u8; 96],
     pub used: usize,

@@ -1,5 +1,7 @@
 // Lists each house file that an argument names, from an opened descriptor to standard output: first its name, then the listing, then what
 // `lister::list` answered.
+#![tactic(auto)]
+
 use libc::STDOUT_FILENO;
 use lister::Outcome;
 

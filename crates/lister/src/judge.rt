@@ -26,7 +26,7 @@ pub(crate) fn result_room() -> [u8; RESULT_ROOM]
     [0; RESULT_ROOM]
 }
 
-#[derive(Drop)]
+#[derive(Clone, Copy)]
 pub(crate) enum Judged {
     Refused(Refusal),
     // How many events there are, and the flag.

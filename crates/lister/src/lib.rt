@@ -1,6 +1,8 @@
 // Lists a house file: reads it, runs its trace, and writes the listing piece by piece, a line each, to a descriptor or into memory that is
 // lent. No input, however damaged, stops it; a failed read or write ends it. Which bytes a piece is, and how many there are,
 // specs/Listing.antt says; only `say`, `say_all`, `list_file` and `list` touch a descriptor, and of what they write no contract can speak.
+#![tactic(auto)]
+
 ghost use Rattle.std.specs.Prelude.{◌≡◌};
 ghost use Rattle.lister.specs.Listing.{unless_broken, Comes};
 
@@ -19,7 +21,7 @@ pub use whole::text;
 pub const LISTING_ROOM: usize = (4096 + 2) * 96;
 
 // What the listing came to.
-#[derive(Drop)]
+#[derive(Clone, Copy)]
 pub enum Outcome {
     Consistent,
     Flagged,
@@ -29,7 +31,7 @@ pub enum Outcome {
 }
 
 // What is told with a listing that stands in memory.
-#[derive(Drop)]
+#[derive(Clone, Copy)]
 pub struct Summary {
     // The number and the places of the refusal; zeros, where there is none.
     pub told: Told,

@@ -10,7 +10,7 @@ use session::{Flag, MOST_EVENTS, Session, sound};
 use table::{Refusal, Symbol, Test};
 
 // How a feed ends, and the session: as it was, where it was refused.
-#[derive(Drop)]
+#[derive(Clone, Copy)]
 pub struct Fed {
     pub test: Test,
     pub session: Session,

@@ -1,6 +1,8 @@
 // House files made from others: with other bounds, with another trace, or with the check of block 0 put right. Every input is answered,
 // with a file at the buffer's start or with the first refusal: of the file that was given, then of what is to be written. A refusal leaves
 // the buffer as it was, and later bytes always stay.
+#![tactic(auto)]
+
 ghost use Rattle.std.specs.Prelude.{◌≡◌, take};
 ghost use Rattle.block.specs.Block.{check};
 ghost use Rattle.house.specs.Reading.{given};

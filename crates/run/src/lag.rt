@@ -14,7 +14,7 @@ use crate::column;
 const TOP: usize = 64;
 
 // The states at all lags of a set, the least lag that has one, and the one past the greatest.
-#[derive(Drop)]
+#[derive(Clone, Copy)]
 pub(crate) struct Tally {
     pub states: u64,
     pub least: usize,

@@ -1,4 +1,6 @@
 // A whole run over a trace, with the table, the trace and the results in the caller's memory.
+#![tactic(auto)]
+
 ghost use Rattle.std.specs.Prelude.{◌≡◌};
 ghost use Rattle.run.specs.Run.{traced, run_test, Runs};
 
@@ -11,7 +13,7 @@ mod line;
 mod trace;
 
 // How a run ends, and the place of the first flagged event, if any; none, where it was refused.
-#[derive(Drop)]
+#[derive(Clone, Copy)]
 pub struct Ran {
     pub test: Test,
     pub flag: Flag,

@@ -13,7 +13,7 @@ use session::Flag;
 use table::Symbol;
 
 // Where a run stands: where the window of its words and inputs begins, and how many inputs the line has.
-#[derive(Drop)]
+#[derive(Clone, Copy)]
 pub(crate) struct Place {
     pub base: usize,
     pub count: usize,

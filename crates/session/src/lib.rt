@@ -1,4 +1,6 @@
 // Sessions: what one carries, how it is opened, and whether any session whatever is sound.
+#![tactic(auto)]
+
 ghost use Rattle.std.specs.Prelude.{◌≡◌};
 ghost use Rattle.session.specs.Open.{zero_session, padded, begun, counted, opening, opened};
 
@@ -10,7 +12,7 @@ pub mod sound;
 pub const MOST_EVENTS: usize = 1048576;
 
 // The place of the first flagged event, if any.
-#[derive(Drop)]
+#[derive(Clone, Copy)]
 pub enum Flag {
     None,
     At(usize),
@@ -19,7 +21,7 @@ pub enum Flag {
 // A session carries its table, bounds, plausible set, newest inputs, counts of events and inputs, and the place of the first
 // flagged event, if any. The words stand before the bytes, so that no two fields have a gap between them: with one the compiler takes a
 // copy of the set for something else than the set, and keeps it on the stack.
-#[derive(Drop)]
+#[derive(Clone, Copy)]
 pub struct Session {
     // A word for each waiting count and run: that of waiting w and run r at 8 w + r, bit s for state s.
     pub set: [u64; 264],
@@ -41,7 +43,7 @@ pub struct Session {
 }
 
 // How an opening ends, and the session: of zeros only, where it was refused.
-#[derive(Drop)]
+#[derive(Clone, Copy)]
 pub struct Opened {
     pub test: Test,
     pub session: Session,

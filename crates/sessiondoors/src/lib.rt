@@ -3,6 +3,8 @@
 // input. It answers false exactly when memory lent for a session or for results is shorter than its layout, and then nothing is written; a
 // refusal is an answer of true, with its number in the results, and writes nothing else. specs/Layout.antt says how a session lies in
 // memory, and specs/Doors.antt what the results are and what each function does.
+#![tactic(auto)]
+
 ghost use Rattle.std.specs.Prelude.{◌≡◌, ◌&&◌, leb};
 ghost use Rattle.sessiondoors.specs.Layout.{session_words, session_bytes};
 ghost use Rattle.sessiondoors.specs.Doors.{test_size, test_results, Opens, Feeding};

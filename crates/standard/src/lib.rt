@@ -1,5 +1,7 @@
 // The standard box: its counts, and its rows in full, each entry held to the box's rule. Nobody else names the constant of 2,048 entries.
 // No function asks anything of its caller.
+#![tactic(auto)]
+
 ghost use Rattle.std.specs.Prelude.{◌≡◌};
 ghost use Rattle.standard.specs.Box.{standard_rows, standard_counts};
 

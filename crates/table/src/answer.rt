@@ -3,7 +3,7 @@ ghost use Rattle.std.specs.Prelude.{◌≡◌};
 ghost use Rattle.table.specs.Refusals.{told_at, told};
 
 // Why something is turned away. Over each variant stands its row of document 01's table; what the variant holds is the place told.
-#[derive(Drop)]
+#[derive(Clone, Copy)]
 pub enum Refusal {
     // 1 | rows are not states × (inputs + outputs) bytes; with source 1, rows are present | the length
     Rows(usize),
@@ -28,14 +28,14 @@ pub enum Refusal {
 }
 
 // How a test ends.
-#[derive(Drop)]
+#[derive(Clone, Copy)]
 pub enum Test {
     Passed,
     Refused(Refusal),
 }
 
 // A refusal in document 01's figures. A place that is not used is 0; of the numbers given here only 4 has a second.
-#[derive(Drop)]
+#[derive(Clone, Copy)]
 pub struct Told {
     pub number: u8,
     pub place: usize,
@@ -43,7 +43,7 @@ pub struct Told {
 }
 
 // What an event byte stands for under a table's counts: a symbol of one direction, or no valid event.
-#[derive(Drop)]
+#[derive(Clone, Copy)]
 pub enum Symbol {
     Input(u8),
     Output(u8),
@@ -51,7 +51,7 @@ pub enum Symbol {
 }
 
 // What an entry of a row says: the next state, or that the symbol is not allowed there.
-#[derive(Drop)]
+#[derive(Clone, Copy)]
 pub enum Next {
     State(u8),
     Nowhere,

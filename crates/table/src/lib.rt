@@ -1,5 +1,7 @@
 // The tests of a table and its bounds that opening, running and reading share, and what the bytes of a trace and of a row say.
 // No function asks anything of its caller: each answers every input, by an equation of specs/.
+#![tactic(auto)]
+
 ghost use Rattle.std.specs.Prelude.{◌≡◌};
 ghost use Rattle.table.specs.Bytes.{table_of};
 ghost use Rattle.table.specs.Tests.{up_to, counts_test, length_test, entries_test, bounds_test, is_invalid, events_test};

@@ -1,4 +1,6 @@
 // Which version of the library a program is linked with, so that it can ask before it calls anything else. specs/Version.antt says which.
+#![tactic(auto)]
+
 ghost use Rattle.std.specs.Prelude.{◌≡◌};
 ghost use Rattle.version.specs.Version.{version};
 

@@ -1,6 +1,8 @@
 // The writer of house files. It answers every table, bounds, trace and buffer: with a file at the buffer's start, or with the first of
 // the reader's refusals of what is to be held, then number 10. A refusal leaves the buffer as it was, and later bytes always stay.
 // What the written bytes mean is the reader's definition, in the crate `house`.
+#![tactic(auto)]
+
 ghost use Rattle.house.specs.Laws.{GoodContents};
 ghost use Rattle.house.specs.Reading.{given};
 ghost use Rattle.writer.specs.Laws.{Counted};

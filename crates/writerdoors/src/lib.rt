@@ -4,6 +4,8 @@
 // every function answers every input. It answers false exactly when the memory lent for its results is too short, and then nothing is
 // written; a refusal is an answer of true, with its number in the results. The results are number, place and second place, and how many bytes
 // the file has, which is at the start of `out`.
+#![tactic(auto)]
+
 ghost use Rattle.std.specs.Prelude.{◌≡◌};
 ghost use Rattle.table.specs.Refusals.{told_at};
 ghost use Rattle.writer.specs.Refusals.{told_of, length_of};
