@@ -1,0 +1,15 @@
+use mathlib.Core.Path.{◌≡◌, sym, ap, ◌∙◌}
+use Prim.Native.Nat.{ℕ, ◌+◌, ◌*◌, ◌%◌, ◌-◌, ◌≤◌, ◌<◌}
+use native.Mathlib.Nat.{mul-le-mul}
+use native.Mathlib.Omega.{arith}
+use borrow.Author.Rules.{rules}
+use Rattle.block.specs.Limits.{check_at, modulus}
+use Rattle.block.specs.Block.{weighed}
+use Rattle.block.proofs.Blocks.{weighed_none, weighed_more}
+use Rattle.block.proofs.check.Given as goal
+
+abbrev pub invariant-loop-i : goal.invariant-loop-i
+invariant-loop-i l = (l.i ≤ check_at) × (l.sum ≤ 130050 * l.i) × (l.sum ≡ weighed l.b l.i)
+
+abbrev pub decreases-loop-i : goal.decreases-loop-i
+decreases-loop-i l = check_at - l.i

@@ -1,0 +1,8 @@
+use Rattle.std.proofs.Common.{◌-◌, ◌≤◌, rules}
+use Rattle.cases.proofs.print.word.Given as goal
+
+abbrev pub invariant-loop-s : goal.invariant-loop-s
+invariant-loop-s l = l.s ≤ 64
+
+abbrev pub decreases-loop-s : goal.decreases-loop-s
+decreases-loop-s l = 64 - l.s

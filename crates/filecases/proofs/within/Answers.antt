@@ -1,0 +1,12 @@
+-- `within` is safe: each part is within its array. Assumes nothing.
+use mathlib.Core.Path.{sym}
+use lib.Seq.{length-take-le}
+use native.Mathlib.Omega.{arith}
+use borrow.Author.Rules.{rules}
+use Rattle.filecases.proofs.within.Goals as goal
+
+pub slice_bounds-read-end : goal.slice_bounds-read-end
+slice_bounds-read-end c = sym (length-take-le _ _ (search rules))
+
+pub slice_bounds-read-end-2 : goal.slice_bounds-read-end-2
+slice_bounds-read-end-2 c = sym (length-take-le _ _ (search rules))

@@ -1,0 +1,7 @@
+-- `results::of_run` meets its contract. Assumes nothing.
+use native.Mathlib.Nat.{mod-eq_of_lt}
+use borrow.Author.Rules.{rules}
+use Rattle.filedoors.proofs.results.of_run.Goals as goal
+
+pub returns : goal.returns
+returns c = rw (c.told.ensures, c.flag_word-f.ensures, mod-eq_of_lt c.requires)

@@ -1,0 +1,8 @@
+-- `flaw::tell` meets its contract. Assumes nothing.
+use borrow.Author.Rules.{rules}
+use Rattle.flaw.specs.Flaws.{told}
+use Rattle.flaw.proofs.tell.Goals as goal
+
+pub returns : goal.returns
+unfolding told
+returns c = rw (c.offset.ensures, c.number.ensures)

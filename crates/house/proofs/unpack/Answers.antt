@@ -1,0 +1,7 @@
+-- `house::unpack` meets its contract. Assumes nothing.
+use borrow.Author.Rules.{rules}
+use Rattle.house.proofs.unpack.Goals as goal
+
+pub returns : goal.returns
+returns c =
+    record { reading = c.held_by-reading.ensures; rows = c.hand.ensures.0; events = c.hand.ensures.1 }

@@ -1,0 +1,19 @@
+-- `piece` meets its contract. What is lent is bytes, so no piece is cut short. Assumes nothing.
+use native.Mathlib.Omega.{arith}
+use borrow.Author.Rules.{rules}
+use Rattle.lister.proofs.Joined.{refused_piece, listed_piece}
+use Rattle.lister.proofs.pieces.piece.Goals as goal
+
+pub returns-in-Refused : goal.returns-in-Refused
+returns-in-Refused c =
+    let a = c.args in
+    refused_piece a.judged a.length a.events.now a.results.now a.k
+    (λ i. omega (arith, c.shared_slice_known-1.given i))
+    (λ i. omega (arith, c.shared_slice_known-2-1.given i)) c.in-Refused.is c.of_refusal.ensures
+
+pub returns-in-Ran : goal.returns-in-Ran
+returns-in-Ran c =
+    let a = c.args in
+    listed_piece a.judged a.length a.events.now a.results.now a.k
+    (λ i. omega (arith, c.shared_slice_known-1.given i))
+    (λ i. omega (arith, c.shared_slice_known-2-1.given i)) c.in-Ran.is c.of_run.ensures

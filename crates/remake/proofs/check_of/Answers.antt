@@ -1,0 +1,6 @@
+-- `check_of` meets its contract: a check has two bytes. Assumes nothing.
+use borrow.Author.Rules.{rules}
+use Rattle.remake.proofs.check_of.Goals as goal
+
+pub returns : goal.returns
+returns c = rw c.check-n.ensures

@@ -1,0 +1,23 @@
+use Rattle.run.proofs.Lags.{draws_none, draws_more}
+use Rattle.run.specs.Lag.{DrawnFrom}
+use Prim.Native.Nat.{ℕ, ◌+◌, ◌-◌, ◌*◌, ◌≤◌, ◌<◌, min}
+use mathlib.Core.Path.{◌≡◌, refl, sym, ◌∙◌, ap}
+use lib.ListN.{length, get_or}
+use native.Mathlib.Omega.{arith}
+use borrow.Author.Rules.{rules}
+use Rattle.run.proofs.lag.draw.Goals as goal
+
+pub loop-w-init : goal.loop-w-init
+loop-w-init c = let p = c.requires in (omega arith, p.0.3, draws_none _ _ _ _ _ _ _)
+
+pub drawn-x-requires : goal.drawn-x-requires
+drawn-x-requires c = let p = c.requires in let l = c.loop-w in (omega arith, p.0.2, p.1 (l.w - 1) (omega arith), p.0.4, p.0.5)
+
+pub loop-w-preserved : goal.loop-w-preserved
+loop-w-preserved c =
+    let l = c.loop-w in
+    let e : l.w - 1 + 1 ≡ l.w = omega arith in
+    (omega arith, l.invariant.1, draws_more _ _ _ _ _ _ _ (l.w - 1) _ l.words (omega arith) (omega arith) (rw e l.invariant.2) c.drawn-x.ensures)
+
+pub returns : goal.returns
+returns c = (let e : c.loop-w.w ≡ 0 = omega arith in rw e at c.loop-w.invariant.2)

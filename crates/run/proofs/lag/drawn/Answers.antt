@@ -1,0 +1,7 @@
+use Rattle.run.proofs.Lags.{drawn_image}
+use native.Mathlib.Omega.{arith}
+use borrow.Author.Rules.{rules}
+use Rattle.run.proofs.lag.drawn.Goals as goal
+
+pub returns : goal.returns
+returns c = drawn_image _ _ _ _ _ _ _ _ c.within.ensures c.image.ensures

@@ -1,0 +1,19 @@
+use borrow.Author.Tests.{eqb-true, eqb-false}
+use Rattle.run.proofs.Lags.{NoneFrom, none_back, past_at}
+use Prim.Native.Nat.{ℕ, ◌+◌, ◌-◌, ◌≤◌, ◌<◌, min}
+use mathlib.Core.Path.{◌≡◌, refl, sym, ◌∙◌, ap}
+use native.Mathlib.Omega.{arith}
+use borrow.Author.Rules.{rules}
+use Rattle.run.proofs.lag.past_of.Goals as goal
+
+pub loop-j-init : goal.loop-j-init
+loop-j-init c = (omega arith, λ k l q. absurd (omega arith))
+
+pub loop-j-preserved : goal.loop-j-preserved
+loop-j-preserved c = (omega arith, none_back c.args.words.now c.args.base _ _ (omega arith) (eqb-true _ 0 c.if-words-base-eq0.true-raw) c.loop-j.invariant.1)
+
+pub returns-else-words-base-eq0 : goal.returns-else-words-base-eq0
+returns-else-words-base-eq0 c = past_at _ _ _ _ c.loop-j.invariant.0 c.loop-j.invariant.1 (λ k. eqb-false _ 0 c.if-words-base-eq0.false-raw)
+
+pub returns-after-loop-j : goal.returns-after-loop-j
+returns-after-loop-j c = past_at _ _ _ _ c.loop-j.invariant.0 c.loop-j.invariant.1 (λ k. absurd (omega arith))

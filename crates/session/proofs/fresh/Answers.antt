@@ -1,0 +1,7 @@
+use Rattle.session.specs.Open.{begun, zeros}
+use borrow.Author.Rules.{rules}
+use Rattle.session.proofs.fresh.Goals as goal
+
+pub returns : goal.returns
+unfolding begun zeros
+returns c = rw c.copied-table.ensures

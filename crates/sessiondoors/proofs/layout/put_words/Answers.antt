@@ -1,0 +1,12 @@
+-- `layout::put_words` meets its contract. Assumes nothing.
+use mathlib.Core.Path.{◌≡◌}
+use lib.ListN.{length}
+use Rattle.sessiondoors.proofs.Layouts.{words_put}
+use borrow.Author.Rules.{rules}
+use Rattle.sessiondoors.proofs.layout.put_words.Goals as goal
+
+pub returns : goal.returns
+returns c =
+    let s = c.args.s in
+    let n : length s.set ≡ 264 = search rules in
+    words_put c.args.words.now _ _ s _ c.requires.0 n c.requires.1 c.flag_word.ensures c.put_words.ensures c.put_words-2.ensures

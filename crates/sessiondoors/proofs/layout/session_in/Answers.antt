@@ -1,0 +1,9 @@
+-- `layout::session_in` meets its contract. Assumes nothing.
+use Rattle.sessiondoors.proofs.Layouts.{held_part}
+use Rattle.sessiondoors.specs.Layout.{session_in}
+use borrow.Author.Rules.{rules}
+use Rattle.sessiondoors.proofs.layout.session_in.Goals as goal
+
+pub returns : goal.returns
+unfolding session_in
+returns c = (rw (c.set_in-set.ensures, c.rows_in-rows.ensures, c.held_in-held.ensures, c.flag_in-flag.ensures.0, held_part), c.flag_in-flag.ensures.1)

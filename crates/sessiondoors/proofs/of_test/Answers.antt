@@ -1,0 +1,6 @@
+-- `of_test` meets its contract. Assumes nothing.
+use borrow.Author.Rules.{rules}
+use Rattle.sessiondoors.proofs.of_test.Goals as goal
+
+pub returns : goal.returns
+returns c = rw c.told.ensures

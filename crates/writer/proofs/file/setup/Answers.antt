@@ -1,0 +1,6 @@
+-- `file::setup` meets its contract. Assumes nothing.
+use borrow.Author.Rules.{rules}
+use Rattle.writer.proofs.file.setup.Goals as goal
+
+pub returns : goal.returns
+returns c = rw c.source_byte.ensures

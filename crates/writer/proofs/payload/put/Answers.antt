@@ -1,0 +1,16 @@
+-- `payload::put` meets its contract: what the stores make is the block. Assumes nothing.
+use mathlib.Core.Path.{refl}
+use borrow.Author.Rules.{rules}
+use Rattle.writer.proofs.Laying.{written}
+use Rattle.writer.proofs.payload.put.Goals as goal
+
+pub returns : goal.returns
+returns c =
+    let a = c.args in
+    let cleared = c.clear in
+    let headed = c.put_header in
+    let copied = c.put_bytes in
+    let checked = c.check-check in
+    let ended = c.put_check in
+    written a.kind a.number checked.result _ a.payload.now a.out.now cleared.new.0 headed.new.0 copied.new.1.0 ended.new.0
+    c.requires.0 c.requires.1.1 refl cleared.ensures headed.ensures copied.ensures checked.ensures ended.ensures
