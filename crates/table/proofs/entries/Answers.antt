@@ -14,19 +14,6 @@ use Rattle.table.proofs.First.{none_more}
 use Rattle.table.proofs.Reading.{none_bad, first_bad, bad_seen}
 use Rattle.table.proofs.entries.Goals as goal
 
-abbrev Clean : List ℕ → ℕ → ℕ → ℕ → ℕ → Type 0
-Clean rows s i o n = first (bad (table_of rows s i o)) n ≡ none
-
-seen : (c : tie.After-leads-out invariant-loop decreases-loop invariant-rows decreases-rows)
-    → let t = c.before.before in
-    let a = t.before.before.before.before.before.args in
-    bad
-    (table_of a.rows.now a.states a.inputs a.outputs)
-    (t.before.before.before.rows.row * (a.inputs + a.outputs) + t.before.loop.column)
-    ≡ c.leads_out.result
-seen c =
-    bad_seen _ _ _ _ _ _ c.before.look.result c.before.before.loop-test.true c.before.look.ensures c.leads_out.ensures
-
 pub rows-init : goal.rows-init
 unfolding first
 rows-init c = (search rules, refl, rw zero-mul)
@@ -43,7 +30,7 @@ loop-column-smaller c = omega arith
 pub loop-column-preserved : goal.loop-column-preserved
 loop-column-preserved c =
     let inv = c.loop-column.invariant in
-    (inv.0, search rules, inv.2, rw (← add_assoc) (none_more _ _ inv.3 (seen c.before ∙ c.if-leads_out.false)))
+    (inv.0, search rules, inv.2, rw (← add_assoc) (none_more _ _ inv.3 (bad_seen _ _ _ _ _ _ c.look.result c.loop-column-test.true c.look.ensures c.leads_out.ensures ∙ c.if-leads_out.false)))
 
 pub overflow_step-row : goal.overflow_step-row
 overflow_step-row c = omega arith
@@ -65,4 +52,4 @@ returns-after-rows c =
 pub returns-then-leads_out : goal.returns-then-leads_out
 returns-then-leads_out c =
     let inv = c.loop-column.invariant in
-    sym (first_bad _ _ _ inv.0 c.loop-column-test.true inv.3 (seen c.before ∙ c.if-leads_out.true))
+    sym (first_bad _ _ _ inv.0 c.loop-column-test.true inv.3 (bad_seen _ _ _ _ _ _ c.look.result c.loop-column-test.true c.look.ensures c.leads_out.ensures ∙ c.if-leads_out.true))

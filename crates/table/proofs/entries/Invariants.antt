@@ -13,6 +13,10 @@ use Rattle.table.proofs.First.{none_more}
 use Rattle.table.proofs.Reading.{none_bad, first_bad, bad_seen}
 use Rattle.table.proofs.entries.Given as goal
 
+-- none of the first n entries is bad
+abbrev pub Clean : List ℕ → ℕ → ℕ → ℕ → ℕ → Type 0
+Clean rows s i o n = first (bad (table_of rows s i o)) n ≡ none
+
 abbrev pub invariant-loop-column : goal.invariant-loop-column
 invariant-loop-column l =    (l.row < l.states) × (l.column ≤ l.inputs + l.outputs) × (l.found ≡ Passed) × Clean l.rows l.states l.inputs l.outputs (l.row * (l.inputs + l.outputs) + l.column)
 

@@ -11,7 +11,7 @@ unfolding symbol_of event
 returns-then-byte-inputs c =
     simp (
       lt-ltb c.args.byte 128 (omega arith),
-      lt-ltb _ _ c.if-byte-lt16.true,
+      lt-ltb c.args.byte 16 (omega arith),
       lt-ltb _ _ c.if-byte-inputs.true,
     )
 
@@ -20,7 +20,7 @@ unfolding symbol_of event
 returns-else-byte-inputs c =
     simp (
       lt-ltb c.args.byte 128 (omega arith),
-      lt-ltb _ _ c.if-byte-lt16.true,
+      lt-ltb c.args.byte 16 (omega arith),
       le-ltb _ _ c.if-byte-inputs.false,
     )
 
@@ -28,7 +28,7 @@ pub returns-then-a-outputs : goal.returns-then-a-outputs
 unfolding symbol_of event
 returns-then-a-outputs c =
     simp (
-      le-ltb _ _ c.if-byte-lt128.false,
+      le-ltb c.args.byte 128 (omega arith),
       lt-ltb (c.args.byte - 128) 16 (omega arith),
       lt-ltb _ _ c.if-a-outputs.true,
     )
@@ -37,19 +37,19 @@ pub returns-else-a-outputs : goal.returns-else-a-outputs
 unfolding symbol_of event
 returns-else-a-outputs c =
     simp (
-      le-ltb _ _ c.if-byte-lt128.false,
+      le-ltb c.args.byte 128 (omega arith),
       lt-ltb (c.args.byte - 128) 16 (omega arith),
       le-ltb _ _ c.if-a-outputs.false,
     )
 
 pub returns-in_default : goal.returns-in_default
 unfolding symbol_of event
-returns-in_default c = simp (lt-ltb _ _ c.if-byte-lt128.true, le-ltb _ _ c.if-byte-lt16.false)
+returns-in_default c = simp (lt-ltb c.args.byte 128 (omega arith), le-ltb c.args.byte 16 (omega arith))
 
 pub returns-in_default-2 : goal.returns-in_default-2
 unfolding symbol_of event
 returns-in_default-2 c =
     simp (
-      le-ltb _ _ c.if-byte-lt128.false,
+      le-ltb c.args.byte 128 (omega arith),
       le-ltb (c.args.byte - 128) 16 (omega arith),
     )
