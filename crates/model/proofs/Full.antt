@@ -1,11 +1,11 @@
 -- A set that an input empties had a full line in each of its configurations. Assumes nothing.
-use mathlib.Core.Path.{◌≡◌, refl, ap}
+use mathlib.Core.Path.{refl}
 use mathlib.Core.List.{List, [], ◌∷◌, ◌++◌}
-use mathlib.Core.Logic.{inl, inr, ⊎_elim}
-use Prim.Native.Nat.{ℕ, ◌+◌, ◌≤◌, ◌<◌}
+use mathlib.Core.Logic.{⊎_elim}
+use Prim.Native.Nat.{ℕ, ◌<◌}
 use native.Mathlib.Omega.{arith}
 use lib.ListN.{length, length-append}
-use Rattle.model.specs.Model.{Device, Event, input, Place, place, Config, config, Move, arrive, Step, Within, Run, start, Reached, Plausible, Empty}
+use Rattle.model.specs.Model.{Device, input, Place, place, config, Move, arrive, Within, Run, start, Reached}
 use Rattle.model.specs.Demands.{FullAtInput}
 use Rattle.model.proofs.Reach.{once, joined}
 use Rattle.model.proofs.Flags.{lt_or_ge}

@@ -1,10 +1,10 @@
 -- A device that does what another does, over related states, keeps what is plausible. Wider tables are a case of it. Assumes nothing.
-use mathlib.Core.Path.{◌≡◌, refl, sym, ap}
-use mathlib.Core.List.{List, [], ◌∷◌, ◌++◌, append-nil}
+use mathlib.Core.Path.{◌≡◌, refl, ap}
+use mathlib.Core.List.{List, [], ◌∷◌, ◌++◌}
 use mathlib.Core.Option.{some}
 use Prim.Native.Nat.{ℕ, suc, ◌+◌, ◌-◌, ◌≤◌, ◌<◌}
 use native.Mathlib.Omega.{arith}
-use lib.ListN.{length, length-append}
+use lib.ListN.{length}
 use Rattle.model.specs.Table.{Table}
 use Rattle.model.specs.Model.{Device, box, Event, input, output, Place, place, Config, cfg, config, Move, arrive, take, lose, send, Step, Within, Run, seen, shows, start, Reached, Plausible}
 use Rattle.model.specs.Demands.{Inserted, nothing, kept, more, InputOf, Wider, AllowingMore}

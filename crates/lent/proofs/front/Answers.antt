@@ -1,7 +1,6 @@
 use mathlib.Core.Path.{sym}
 use lib.Seq.{length-take-le, take_all}
 use native.Mathlib.Omega.{arith}
-use borrow.Author.Rules.{rules}
 use Rattle.lent.proofs.front.Goals as goal
 
 pub slice_bounds-result-end : goal.slice_bounds-result-end

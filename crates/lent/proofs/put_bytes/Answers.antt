@@ -1,9 +1,8 @@
 -- `put_bytes` meets its contract: what was passed stands from the place on. Assumes nothing.
-use mathlib.Core.Path.{◌≡◌, refl}
-use Prim.Native.Nat.{◌+◌, ◌-◌, ◌≤◌}
+use mathlib.Core.Path.{refl}
 use native.Mathlib.Omega.{arith}
-use lib.ListN.{length, length-set}
-use lib.Seq.{paste, paste-zero}
+use lib.ListN.{length-set}
+use lib.Seq.{paste-zero}
 use borrow.Author.Rules.{rules}
 use Rattle.lent.proofs.Copying.{not_put, room, more, all}
 use Rattle.lent.proofs.put_bytes.Goals as goal

@@ -2,7 +2,6 @@
 use borrow.Author.Tests.{lt-leb, le-leb}
 use Rattle.standarddoors.specs.Results as doors
 use Rattle.standarddoors.proofs.Answers.{gives_by}
-use borrow.Author.Rules.{rules}
 use Rattle.standarddoors.proofs.rillmoth_standard.Goals as goal
 
 pub returns-then-rows-lt-LENGTH : goal.returns-then-rows-lt-LENGTH

@@ -3,7 +3,6 @@ use Rattle.states.proofs.Answers.{said}
 use Rattle.states.proofs.Member.{in_lt}
 use Rattle.states.proofs.Ends.{below_by}
 use native.Mathlib.Omega.{arith}
-use borrow.Author.Rules.{rules}
 use Rattle.states.proofs.below.Goals as goal
 
 pub returns-then-n-ge-STATES : goal.returns-then-n-ge-STATES

@@ -4,7 +4,6 @@ use native.Mathlib.Nat.{mul-le-mul}
 use Rattle.states.proofs.Words.{getD_within}
 use lib.ListN.{get_or-eq_default}
 use native.Mathlib.Omega.{arith}
-use borrow.Author.Rules.{rules}
 use Rattle.states.proofs.byte.Goals as goal
 
 product : (a b : ℕ) → a < 256 → b < 256 → a * b ≤ 65025

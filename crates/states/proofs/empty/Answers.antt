@@ -1,12 +1,7 @@
 -- `states::empty` meets its contract: what is gathered has the states of the words passed. Assumes nothing.
-use mathlib.Core.Logic.{◌↔◌}
-use Prim.Native.Nat.{ℕ, ◌-◌, ◌≤◌}
-use lib.ListN.{length}
-use Rattle.states.specs.In.{In, AnyOf}
 use Rattle.states.proofs.Words.{any_none, any_more}
 use Rattle.states.proofs.Ends.{empty_by}
 use native.Mathlib.Omega.{arith}
-use borrow.Author.Rules.{rules}
 use Rattle.states.proofs.empty.Goals as goal
 
 pub loop-k-init : goal.loop-k-init

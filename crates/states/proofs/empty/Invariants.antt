@@ -2,10 +2,6 @@ use mathlib.Core.Logic.{◌↔◌}
 use Prim.Native.Nat.{ℕ, ◌-◌, ◌≤◌}
 use lib.ListN.{length}
 use Rattle.states.specs.In.{In, AnyOf}
-use Rattle.states.proofs.Words.{any_none, any_more}
-use Rattle.states.proofs.Ends.{empty_by}
-use native.Mathlib.Omega.{arith}
-use borrow.Author.Rules.{rules}
 use Rattle.states.proofs.empty.Given as goal
 
 abbrev pub invariant-loop-k : goal.invariant-loop-k

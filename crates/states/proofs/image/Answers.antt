@@ -3,11 +3,9 @@ use mathlib.Core.Path.{refl}
 use mathlib.Core.Logic.Iff
 use Prim.Native.Nat.{◌-◌}
 use lib.Bits.{and_le_r}
-use Rattle.states.specs.Rows.{Leads}
 use Rattle.states.proofs.Member.{in_or_with}
-use Rattle.states.proofs.Through.{Going, going_none, going_more, going_all, leads_by, via_image}
+use Rattle.states.proofs.Through.{going_none, going_more, going_all, leads_by, via_image}
 use native.Mathlib.Omega.{arith}
-use borrow.Author.Rules.{rules}
 use Rattle.states.proofs.image.Goals as goal
 
 pub loop-left-init : goal.loop-left-init

@@ -1,7 +1,6 @@
 -- `states::most` meets its contract. Assumes nothing.
 use Rattle.states.proofs.Ends.{leading_low, no_most, most_of}
 use native.Mathlib.Omega.{arith}
-use borrow.Author.Rules.{rules}
 use Rattle.states.proofs.most.Goals as goal
 
 pub returns-then-x-eq0 : goal.returns-then-x-eq0

@@ -1,7 +1,6 @@
 -- `states::only` meets its contract. Assumes nothing.
 use Rattle.states.proofs.Member.{not_in_zero, in_one}
 use native.Mathlib.Omega.{arith}
-use borrow.Author.Rules.{rules}
 use Rattle.states.proofs.only.Goals as goal
 
 pub returns-then-t-ge-STATES : goal.returns-then-t-ge-STATES

@@ -1,10 +1,10 @@
 -- `states::put` meets its contract: the words passed have their bit. Assumes nothing.
 use mathlib.Core.Path.{◌≡◌}
-use mathlib.Core.Logic.{◌⊎◌, inl, ⊎_elim, ◌↔◌}
-use Prim.Native.Nat.{ℕ, ◌-◌, ◌*◌, ◌/◌, ◌%◌, ◌^◌, ◌<◌}
-use Rattle.states.specs.In.{word_states, row_words, In, Has}
+use mathlib.Core.Logic.{inl, ⊎_elim, ◌↔◌}
+use Prim.Native.Nat.{ℕ, ◌*◌, ◌/◌, ◌%◌, ◌^◌, ◌<◌}
+use Rattle.states.specs.In.{word_states, In}
 use Rattle.states.proofs.Member.{in_or_with, in_moved}
-use Rattle.states.proofs.Words.{Filled, filled_none, filled_more}
+use Rattle.states.proofs.Words.{filled_none, filled_more}
 use native.Mathlib.Omega.{arith}
 use borrow.Author.Rules.{rules}
 use Rattle.states.proofs.put.Goals as goal

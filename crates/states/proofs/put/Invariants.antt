@@ -1,11 +1,8 @@
 use mathlib.Core.Path.{◌≡◌}
-use mathlib.Core.Logic.{◌⊎◌, inl, ⊎_elim, ◌↔◌}
-use Prim.Native.Nat.{ℕ, ◌-◌, ◌*◌, ◌/◌, ◌%◌, ◌^◌, ◌<◌}
-use Rattle.states.specs.In.{word_states, row_words, In, Has}
-use Rattle.states.proofs.Member.{in_or_with, in_moved}
-use Rattle.states.proofs.Words.{Filled, filled_none, filled_more}
-use native.Mathlib.Omega.{arith}
-use borrow.Author.Rules.{rules}
+use mathlib.Core.Logic.{◌⊎◌}
+use Prim.Native.Nat.{◌-◌, ◌<◌}
+use Rattle.states.specs.In.{word_states, row_words, Has}
+use Rattle.states.proofs.Words.{Filled}
 use Rattle.states.proofs.put.Given as goal
 
 abbrev pub invariant-loop-r : goal.invariant-loop-r

@@ -1,6 +1,5 @@
 -- `states::sent` meets its contract: the union has all of each word. Assumes nothing.
 use mathlib.Core.Logic.Iff
-use borrow.Author.Rules.{rules}
 use Rattle.states.proofs.Through.{image_all}
 use Rattle.states.proofs.sent.Goals as goal
 

@@ -1,15 +1,12 @@
 -- `states::sent_from` meets its contract: in each word, each state taken out of `left` has led to what is in `out`. Assumes nothing.
 use mathlib.Core.Logic.Iff
-use Prim.Native.Nat.{ℕ, ◌-◌, ◌^◌, ◌<◌}
-use lib.ListN.{get_or, get_or-replicate}
+use Prim.Native.Nat.{ℕ, ◌-◌}
+use lib.ListN.{get_or-replicate}
 use lib.Bits.{and_le_r}
-use Rattle.states.specs.In.{row_words, Has}
-use Rattle.states.specs.Rows.{Leads}
 use Rattle.states.proofs.Member.{in_lt}
 use Rattle.states.proofs.Ends.{least_in}
-use Rattle.states.proofs.Through.{Going, going_none, going_more, going_all, leads_with, via_both}
+use Rattle.states.proofs.Through.{going_none, going_more, going_all, leads_with, via_both}
 use native.Mathlib.Omega.{arith}
-use borrow.Author.Rules.{rules}
 use Rattle.states.proofs.sent_from.Goals as goal
 
 pub loop-left-init : goal.loop-left-init

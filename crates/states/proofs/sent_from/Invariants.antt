@@ -1,18 +1,12 @@
-use mathlib.Core.Logic.Iff
-use Prim.Native.Nat.{ℕ, ◌-◌, ◌^◌, ◌<◌}
-use lib.ListN.{get_or, get_or-replicate}
-use lib.Bits.{and_le_r}
+use Prim.Native.Nat.{ℕ, ◌^◌, ◌<◌}
+use lib.ListN.{get_or}
 use Rattle.states.specs.In.{row_words, Has}
 use Rattle.states.specs.Rows.{Leads}
-use Rattle.states.proofs.Member.{in_lt}
-use Rattle.states.proofs.Ends.{least_in}
-use Rattle.states.proofs.Through.{Going, going_none, going_more, going_all, leads_with, via_both}
-use native.Mathlib.Omega.{arith}
-use borrow.Author.Rules.{rules}
+use Rattle.states.proofs.Through.{Going}
 use Rattle.states.proofs.sent_from.Given as goal
 
 abbrev pub invariant-loop-left : goal.invariant-loop-left
-invariant-loop-left l =    (l.left < 2 ^ 64) × ((r : ℕ) → r < row_words → Going (λ s t. Has l.row r s × Leads l.rows l.width l.column s t) l.from l.left (get_or l.out r 0))
+invariant-loop-left l = (l.left < 2 ^ 64) × ((r : ℕ) → r < row_words → Going (λ s t. Has l.row r s × Leads l.rows l.width l.column s t) l.from l.left (get_or l.out r 0))
 
 abbrev pub decreases-loop-left : goal.decreases-loop-left
 decreases-loop-left l = l.left

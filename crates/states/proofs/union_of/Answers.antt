@@ -1,11 +1,8 @@
 -- `states::union_of` meets its contract: it has the states of the words passed. Assumes nothing.
 use mathlib.Core.Path.{◌≡◌}
-use mathlib.Core.Logic.{◌↔◌}
-use Prim.Native.Nat.{ℕ, ◌-◌, ◌≤◌}
-use Rattle.states.specs.In.{row_words, In, AnyOf}
+use Rattle.states.specs.In.{row_words}
 use Rattle.states.proofs.Words.{any_none, any_more}
 use native.Mathlib.Omega.{arith}
-use borrow.Author.Rules.{rules}
 use Rattle.states.proofs.union_of.Goals as goal
 
 pub loop-r-init : goal.loop-r-init

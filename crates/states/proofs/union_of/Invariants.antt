@@ -1,10 +1,6 @@
-use mathlib.Core.Path.{◌≡◌}
 use mathlib.Core.Logic.{◌↔◌}
 use Prim.Native.Nat.{ℕ, ◌-◌, ◌≤◌}
 use Rattle.states.specs.In.{row_words, In, AnyOf}
-use Rattle.states.proofs.Words.{any_none, any_more}
-use native.Mathlib.Omega.{arith}
-use borrow.Author.Rules.{rules}
 use Rattle.states.proofs.union_of.Given as goal
 
 abbrev pub invariant-loop-r : goal.invariant-loop-r

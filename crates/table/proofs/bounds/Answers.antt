@@ -1,5 +1,4 @@
 -- `table::bounds` meets its contract: each answer follows from the tests that led there. Assumes nothing.
-use borrow.Author.Rules.{rules}
 use Rattle.table.specs.Tests.{bounds_test}
 use Rattle.table.proofs.Checks.{passed, failed}
 use Rattle.table.proofs.bounds.Goals as goal

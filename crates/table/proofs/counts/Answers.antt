@@ -1,5 +1,4 @@
 -- `table::counts` meets its contract: each answer follows from the tests that led there. Assumes nothing.
-use borrow.Author.Rules.{rules}
 use Rattle.table.specs.Tests.{counts_test}
 use Rattle.table.proofs.Checks.{passed, failed}
 use Rattle.table.proofs.counts.Goals as goal

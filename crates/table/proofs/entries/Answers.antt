@@ -1,15 +1,10 @@
 -- `table::entries` meets its contract. While both loops run, no entry passed is bad: their numbers are those below row * width + column.
 use mathlib.Core.Path.{◌≡◌, refl, sym, ◌∙◌}
-use mathlib.Core.List.{List}
-use mathlib.Core.Option.{none}
-use Prim.Native.Nat.{ℕ, ◌+◌, ◌*◌, ◌-◌, ◌≤◌, ◌<◌}
+use Prim.Native.Nat.{◌+◌}
 use native.Mathlib.Nat.{zero-mul, add-zero, add_assoc, add-mul, one-mul}
 use native.Mathlib.Omega.{arith}
 use borrow.Author.Rules.{rules}
-use Rattle.table.specs.Bytes.{table_of}
 use Rattle.table.specs.First.{first}
-use Rattle.table.specs.Tests.{bad}
-use Rattle.table.specs.declared.answer.Test.TheVariants.{Passed}
 use Rattle.table.proofs.First.{none_more}
 use Rattle.table.proofs.Reading.{none_bad, first_bad, bad_seen}
 use Rattle.table.proofs.entries.Goals as goal

@@ -1,16 +1,11 @@
-use mathlib.Core.Path.{◌≡◌, refl, sym, ◌∙◌}
+use mathlib.Core.Path.{◌≡◌}
 use mathlib.Core.List.{List}
 use mathlib.Core.Option.{none}
 use Prim.Native.Nat.{ℕ, ◌+◌, ◌*◌, ◌-◌, ◌≤◌, ◌<◌}
-use native.Mathlib.Nat.{zero-mul, add-zero, add_assoc, add-mul, one-mul}
-use native.Mathlib.Omega.{arith}
-use borrow.Author.Rules.{rules}
 use Rattle.table.specs.Bytes.{table_of}
 use Rattle.table.specs.First.{first}
 use Rattle.table.specs.Tests.{bad}
 use Rattle.table.specs.declared.answer.Test.TheVariants.{Passed}
-use Rattle.table.proofs.First.{none_more}
-use Rattle.table.proofs.Reading.{none_bad, first_bad, bad_seen}
 use Rattle.table.proofs.entries.Given as goal
 
 -- none of the first n entries is bad
@@ -18,7 +13,7 @@ abbrev pub Clean : List ℕ → ℕ → ℕ → ℕ → ℕ → Type 0
 Clean rows s i o n = first (bad (table_of rows s i o)) n ≡ none
 
 abbrev pub invariant-loop-column : goal.invariant-loop-column
-invariant-loop-column l =    (l.row < l.states) × (l.column ≤ l.inputs + l.outputs) × (l.found ≡ Passed) × Clean l.rows l.states l.inputs l.outputs (l.row * (l.inputs + l.outputs) + l.column)
+invariant-loop-column l = (l.row < l.states) × (l.column ≤ l.inputs + l.outputs) × (l.found ≡ Passed) × Clean l.rows l.states l.inputs l.outputs (l.row * (l.inputs + l.outputs) + l.column)
 
 abbrev pub decreases-loop-column : goal.decreases-loop-column
 decreases-loop-column l = l.inputs + l.outputs - l.column

@@ -1,13 +1,9 @@
-use Rattle.table.specs.Tests.{is_invalid, invalid_at, events_test}
-use Rattle.table.proofs.First.{none_more, found}
+use Rattle.table.specs.Tests.{invalid_at}
 use Rattle.table.specs.First as search
-use mathlib.Core.Bool.{true, false}
 use mathlib.Core.Option.{none}
-use lib.ListN.{length, get_or}
-use Prim.Native.Nat.{ℕ, ◌+◌, ◌-◌, ◌*◌, ◌≤◌, ◌<◌}
-use mathlib.Core.Path.{◌≡◌, refl, sym, ◌∙◌, ap}
-use native.Mathlib.Omega.{arith}
-use borrow.Author.Rules.{rules}
+use lib.ListN.{length}
+use Prim.Native.Nat.{◌-◌, ◌≤◌}
+use mathlib.Core.Path.{◌≡◌}
 use Rattle.table.proofs.events.Given as goal
 
 abbrev pub invariant-loop-k : goal.invariant-loop-k

@@ -1,6 +1,5 @@
 -- `table::length` meets its contract. Assumes nothing.
 use mathlib.Core.Path.{◌∙◌}
-use borrow.Author.Rules.{rules}
 use borrow.Author.Tests.{eq-eqb, ne_eqb}
 use Rattle.table.specs.Tests.{length_test}
 use Rattle.table.proofs.length.Goals as goal

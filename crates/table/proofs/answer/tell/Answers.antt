@@ -1,5 +1,4 @@
 -- `table::tell` meets its contract, arm by arm. Assumes nothing.
-use borrow.Author.Rules.{rules}
 use Rattle.table.specs.Refusals.{told}
 use Rattle.table.proofs.answer.tell.Goals as goal
 

@@ -1,5 +1,4 @@
 -- `table::leads_out` meets its contract. Assumes nothing.
-use borrow.Author.Rules.{rules}
 use Rattle.table.proofs.byte.leads_out.Goals as goal
 
 pub returns-in-State : goal.returns-in-State

@@ -1,6 +1,5 @@
 -- `table::look` meets its contract. Assumes nothing.
 use mathlib.Core.Path.{sym}
-use borrow.Author.Rules.{rules}
 use Rattle.table.proofs.Bytes.{past, barred, allowed}
 use Rattle.table.proofs.byte.look.Goals as goal
 
