@@ -1,4 +1,5 @@
 -- `table::entries` meets its contract. While both loops run, no entry passed is bad: their numbers are those below row * width + column.
+-- Assumes nothing.
 use mathlib.Core.Path.{◌≡◌, refl, sym, ◌∙◌}
 use Prim.Native.Nat.{◌+◌}
 use native.Mathlib.Nat.{zero-mul, add-zero, add_assoc, add-mul, one-mul}
