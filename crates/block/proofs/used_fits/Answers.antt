@@ -2,8 +2,6 @@
 use borrow.Author.Tests.{eq-eqb, ne_eqb, le-leb, lt-leb}
 use Rattle.block.proofs.used_fits.Goals as goal
 
-used-fits-spec = tie.close (tie.spec returns returns-2 returns-3)
-
 pub returns-then-k-eq0 : goal.returns-then-k-eq0
 returns-then-k-eq0 c = simp (eq-eqb _ _ c.if-k-eq0.true)
 
