@@ -21,7 +21,10 @@ followed-flag-requires c =
     let p = (run_passes _ _ _ _ _ _ _ _).0 (sym c.tests-test.ensures ∙ c.in-Passed.is) in
     let s = small_opening _ _ _ _ _ _ p.0 in
     let b = ((opening_passes _ _ _ _ _ _).0 p.0).1 in
-    ((b.waiting.1, b.losses.0, b.losses.1, omega (arith, s.inputs), omega (arith, s.outputs), p.1.few, p.2), p.1.valid)
+    record {
+      most_bound = (b.waiting.1, b.losses.0, b.losses.1, omega (arith, s.inputs), omega (arith, s.outputs), p.1.few, p.2);
+      by_index = p.1.valid;
+    }
 
 pub returns-in-Refused : goal.returns-in-Refused
 returns-in-Refused c = refused (sym c.tests-test.ensures ∙ c.in-Refused.is)

@@ -16,7 +16,7 @@ returns-then-rest-eq0 c = λ t.
     image_turned _ _ _ _ p.2 p.0 _ _ _ (omega arith) c.turned-near.ensures c.turned-far.ensures c.if-rest-eq0.true t)
 
 pub led-requires : goal.led-requires
-led-requires c = let p = c.requires in ((p.1, p.0), ready_rest _ _ _ _ p.2 p.0 c.args.from)
+led-requires c = let p = c.requires in record { width_bound = (p.1, p.0); by_index = ready_rest _ _ _ _ p.2 p.0 c.args.from }
 
 pub returns : goal.returns
 returns c = λ t.

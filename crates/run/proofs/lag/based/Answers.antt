@@ -8,4 +8,4 @@ returns-then-base-gt0 c = let p = c.requires in based_here _ _ _ c.if-base-gt0.t
 
 pub returns : goal.returns
 returns c = let p = c.requires in
-    based_up _ _ _ _ _ (omega arith) p.1 p.2 c.copy_words.ensures c.Copy-Line.ensures
+    based_up _ _ _ _ _ (omega arith) p.1 p.2 c.copy_words.ensures c.copy_line.ensures

@@ -8,10 +8,10 @@ use borrow.Author.Rules.{rules}
 use Rattle.run.proofs.lag.draw.Goals as goal
 
 pub loop-w-init : goal.loop-w-init
-loop-w-init c = let p = c.requires in (omega arith, p.0.3, draws_none _ _ _ _ _ _ _)
+loop-w-init c = let p = c.requires in (omega arith, p.base_bound.3, draws_none _ _ _ _ _ _ _)
 
 pub drawn-x-requires : goal.drawn-x-requires
-drawn-x-requires c = let p = c.requires in let l = c.loop-w in (omega arith, p.0.2, p.1 (l.w - 1) (omega arith), p.0.4, p.0.5)
+drawn-x-requires c = let p = c.requires in let l = c.loop-w in (omega arith, p.base_bound.2, p.by_index (l.w - 1) (omega arith), p.base_bound.4, p.base_bound.5)
 
 pub loop-w-preserved : goal.loop-w-preserved
 loop-w-preserved c =

@@ -1,4 +1,3 @@
-use borrow.Author.Tests.{eqb-true, eqb-false}
 use Rattle.run.proofs.Lags.{NoneFrom, none_back, past_at}
 use Prim.Native.Nat.{ℕ, ◌+◌, ◌-◌, ◌≤◌, ◌<◌, min}
 use mathlib.Core.Path.{◌≡◌, refl, sym, ◌∙◌, ap}
@@ -10,10 +9,10 @@ pub loop-j-init : goal.loop-j-init
 loop-j-init c = (omega arith, λ k l q. absurd (omega arith))
 
 pub loop-j-preserved : goal.loop-j-preserved
-loop-j-preserved c = (omega arith, none_back c.args.words.now c.args.base _ _ (omega arith) (eqb-true _ 0 c.if-words-base-eq0.true-raw) c.loop-j.invariant.1)
+loop-j-preserved c = (omega arith, none_back c.args.words.now c.args.base _ _ (omega arith) c.if-words-base-eq0.true c.loop-j.invariant.1)
 
 pub returns-else-words-base-eq0 : goal.returns-else-words-base-eq0
-returns-else-words-base-eq0 c = past_at _ _ _ _ c.loop-j.invariant.0 c.loop-j.invariant.1 (λ k. eqb-false _ 0 c.if-words-base-eq0.false-raw)
+returns-else-words-base-eq0 c = past_at _ _ _ _ c.loop-j.invariant.0 c.loop-j.invariant.1 (λ k. c.if-words-base-eq0.false)
 
 pub returns-after-loop-j : goal.returns-after-loop-j
 returns-after-loop-j c = past_at _ _ _ _ c.loop-j.invariant.0 c.loop-j.invariant.1 (λ k. absurd (omega arith))

@@ -4,19 +4,6 @@ use native.Mathlib.Omega.{arith}
 use borrow.Author.Rules.{rules}
 use Rattle.run.proofs.trace.recorded.Goals as goal
 
-recorded-spec =
-    tie.close
-    (tie.spec
-    add-tally-of
-    tally-of-requires
-    mul-put
-    cast-line
-    cast-line-2
-    line-requires
-    put-requires
-    same_length
-    returns)
-
 pub line-requires : goal.line-requires
 line-requires c = let t = c.tally_of-t.ensures in (omega arith, omega (arith, t.least.most), omega (arith, t.past.most))
 
