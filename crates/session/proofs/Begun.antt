@@ -15,7 +15,6 @@ use Rattle.table.specs.declared.answer.Test.TheVariants.{Passed}
 use Rattle.states.specs.In.{In}
 use Rattle.states.proofs.Member.{not_in_zero, in_pow}
 use Rattle.session.specs.Sets.{Holds}
-use Rattle.session.specs.declared.Flag.TheVariants as flag
 use Rattle.session.specs.Session.{ZeroFrom, Sound}
 use Rattle.session.specs.Open.{zeros, padded, opening, begun, zero_session}
 use Rattle.session.specs.Laws.{OpenedSound, OpenedBegins, ZerosUnsound}

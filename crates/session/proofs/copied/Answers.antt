@@ -1,12 +1,10 @@
 use Rattle.session.proofs.Padded.{length_zeros, copy_more, copy_all, copy_full}
 use Rattle.session.specs.Open.{zeros}
 use borrow.Author.Tests.{ltb-true, ltb-false}
-use lib.ListN.{length, take, drop}
-use Prim.Native.Nat.{◌≤◌, ◌<◌, ◌-◌}
-use mathlib.Core.List.{◌++◌}
+use lib.ListN.{length}
+use Prim.Native.Nat.{◌<◌}
 use mathlib.Core.Path.{◌≡◌, refl, ◌∙◌}
 use native.Mathlib.Omega.{arith}
-use borrow.Author.Rules.{rules}
 use Rattle.session.proofs.copied.Goals as goal
 
 pub loop-i-init : goal.loop-i-init

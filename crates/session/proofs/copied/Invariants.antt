@@ -1,12 +1,8 @@
-use Rattle.session.proofs.Padded.{length_zeros, copy_more, copy_all, copy_full}
 use Rattle.session.specs.Open.{zeros}
-use borrow.Author.Tests.{ltb-true, ltb-false}
 use lib.ListN.{length, take, drop}
-use Prim.Native.Nat.{◌≤◌, ◌<◌, ◌-◌}
+use Prim.Native.Nat.{◌≤◌, ◌-◌}
 use mathlib.Core.List.{◌++◌}
-use mathlib.Core.Path.{◌≡◌, refl, ◌∙◌}
-use native.Mathlib.Omega.{arith}
-use borrow.Author.Rules.{rules}
+use mathlib.Core.Path.{◌≡◌}
 use Rattle.session.proofs.copied.Given as goal
 
 abbrev pub invariant-loop-i : goal.invariant-loop-i

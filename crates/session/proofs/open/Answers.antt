@@ -2,24 +2,7 @@ use Rattle.session.proofs.Openings.{small_opening}
 use Rattle.session.specs.Open.{opened}
 use mathlib.Core.Path.{sym, ◌∙◌}
 use native.Mathlib.Omega.{arith}
-use borrow.Author.Rules.{rules}
 use Rattle.session.proofs.open.Goals as goal
-
-open_spec =
-    tie.close
-    (tie.spec
-    tested-requires
-    enum-known-test
-    zeros-requires
-    enum_told
-    cast-fresh
-    cast-fresh-2
-    cast-fresh-3
-    cast-fresh-4
-    cast-fresh-5
-    fresh-requires
-    returns
-    returns-2)
 
 pub overflow_cast-states : goal.overflow_cast-states
 overflow_cast-states c = omega (arith, small_opening _ _ _ _ _ _ (sym c.tested-test.ensures ∙ c.in-Passed.is))

@@ -1,5 +1,4 @@
 use mathlib.Core.Path.{sym, ◌∙◌}
-use borrow.Author.Rules.{rules}
 use Rattle.session.proofs.rest.Goals as goal
 
 pub returns-in-Refused : goal.returns-in-Refused
@@ -9,4 +8,4 @@ pub returns-in-Refused-read : goal.returns-in-Refused-read
 returns-in-Refused-read c = rw (sym c.length-sized.ensures ∙ c.in-Passed.is, sym c.entries-read.ensures ∙ c.in-Refused-read.is)
 
 pub returns-in-Passed-read : goal.returns-in-Passed-read
-returns-in-Passed-read c = rw (sym c.length-sized.ensures ∙ c.in-Passed-read.is, sym c.entries-read.ensures ∙ c.in-Passed-read.is) c.bounds.ensures
+returns-in-Passed-read c = rw (sym c.length-sized.ensures ∙ c.in-Passed.is, sym c.entries-read.ensures ∙ c.in-Passed-read.is) c.bounds.ensures

@@ -2,7 +2,6 @@ use Rattle.session.proofs.Openings.{small_counts}
 use Rattle.session.specs.Open.{opening}
 use mathlib.Core.Path.{sym, ◌∙◌}
 use native.Mathlib.Omega.{arith}
-use borrow.Author.Rules.{rules}
 use Rattle.session.proofs.tested.Goals as goal
 
 pub overflow_cast-states : goal.overflow_cast-states
@@ -16,7 +15,7 @@ overflow_cast-outputs c = omega (arith, small_counts _ _ _ (sym c.counts-counts.
 
 pub returns-in-Refused : goal.returns-in-Refused
 unfolding opening
-returns-in-Refused c = rw (sym c.in-Refused.ensures ∙ c.in-Refused.is)
+returns-in-Refused c = rw (sym c.counts-counts.ensures ∙ c.in-Refused.is)
 
 pub returns-in-Passed : goal.returns-in-Passed
 unfolding opening

@@ -1,5 +1,4 @@
 use native.Mathlib.Omega.{arith}
-use borrow.Author.Rules.{rules}
 use Rattle.session.proofs.sound.after.Goals as goal
 
 pub returns-then-x-eq255 : goal.returns-then-x-eq255

@@ -1,10 +1,7 @@
 use Rattle.session.proofs.Clauses.{below_more}
 use borrow.Author.Tests.{ltb-true, ltb-false}
 use Rattle.states.proofs.Answers.{said, denied}
-use lib.ListN.{length, get_or}
-use Prim.Native.Nat.{ℕ, ◌-◌, ◌≤◌, ◌<◌}
 use native.Mathlib.Omega.{arith}
-use borrow.Author.Rules.{rules}
 use Rattle.session.proofs.sound.below.Goals as goal
 
 pub loop-k-init : goal.loop-k-init

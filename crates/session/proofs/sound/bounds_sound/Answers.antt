@@ -1,7 +1,6 @@
 use mathlib.Core.Path.{sym, ◌∙◌}
 use Rattle.table.proofs.Laws.{bounds_pass}
 use Rattle.states.proofs.Answers.{left}
-use borrow.Author.Rules.{rules}
 use Rattle.session.proofs.sound.bounds_sound.Goals as goal
 
 pub returns : goal.returns

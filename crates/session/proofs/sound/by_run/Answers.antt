@@ -1,13 +1,9 @@
 use lib.ListN.{get_or-replicate}
 use Rattle.session.proofs.Passes.{by_run_more}
-use Rattle.states.specs.In.{Has}
 use Rattle.states.proofs.Member.{not_in_zero}
-use Rattle.session.specs.Sets.{InCell}
-use mathlib.Core.Logic.{◌↔◌}
-use Prim.Native.Nat.{ℕ, ◌+◌, ◌-◌, ◌≤◌, ◌<◌}
+use Prim.Native.Nat.{ℕ, ◌+◌}
 use mathlib.Core.Path.{◌≡◌}
 use native.Mathlib.Omega.{arith}
-use borrow.Author.Rules.{rules}
 use Rattle.session.proofs.sound.by_run.Goals as goal
 
 pub loop-w-init : goal.loop-w-init

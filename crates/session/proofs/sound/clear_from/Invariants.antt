@@ -1,8 +1,6 @@
-use Rattle.session.proofs.Passes.{Zeros, zeros_none, zeros_more, zeros_all}
+use Rattle.session.proofs.Passes.{Zeros}
 use Prim.Native.Nat.{◌-◌}
 use lib.ListN.{length}
-use native.Mathlib.Omega.{arith}
-use borrow.Author.Rules.{rules}
 use Rattle.session.proofs.sound.clear_from.Given as goal
 
 abbrev pub invariant-loop-k : goal.invariant-loop-k

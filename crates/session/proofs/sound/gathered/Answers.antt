@@ -1,9 +1,5 @@
-use Rattle.states.proofs.Words.{Filled, filled_none, filled_more}
+use Rattle.states.proofs.Words.{filled_none, filled_more}
 use Rattle.states.proofs.Member.{in_or}
-use Rattle.states.specs.In.{Has}
-use Rattle.session.specs.Sets.{InCell}
-use mathlib.Core.Logic.{◌⊎◌}
-use Prim.Native.Nat.{◌-◌}
 use mathlib.Core.Path.{◌≡◌}
 use native.Mathlib.Omega.{arith}
 use borrow.Author.Rules.{rules}

@@ -1,6 +1,5 @@
 use Rattle.session.proofs.Clauses.{both_decide}
 use Rattle.states.proofs.Answers.{left}
-use borrow.Author.Rules.{rules}
 use Rattle.session.proofs.sound.held_sound.Goals as goal
 
 pub returns : goal.returns

@@ -1,8 +1,6 @@
 use mathlib.Core.Path.{◌≡◌}
-use Rattle.session.proofs.Passes.{Needed, needed_none, needed_more, needed_all}
-use Prim.Native.Nat.{◌-◌, ◌≤◌}
+use Rattle.session.proofs.Passes.{needed_none, needed_more, needed_all}
 use native.Mathlib.Omega.{arith}
-use borrow.Author.Rules.{rules}
 use Rattle.session.proofs.sound.lead_below.Goals as goal
 
 pub loop-k-init : goal.loop-k-init

@@ -1,8 +1,5 @@
-use mathlib.Core.Path.{◌≡◌}
-use Rattle.session.proofs.Passes.{Needed, needed_none, needed_more, needed_all}
+use Rattle.session.proofs.Passes.{Needed}
 use Prim.Native.Nat.{◌-◌, ◌≤◌}
-use native.Mathlib.Omega.{arith}
-use borrow.Author.Rules.{rules}
 use Rattle.session.proofs.sound.lead_below.Given as goal
 
 abbrev pub invariant-loop-k : goal.invariant-loop-k

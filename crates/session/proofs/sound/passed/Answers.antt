@@ -2,7 +2,6 @@ use Rattle.states.proofs.Answers.{said, denied}
 use Prim.Native.Nat.{ℕ}
 use mathlib.Core.Path.{◌≡◌}
 use native.Mathlib.Omega.{arith}
-use borrow.Author.Rules.{rules}
 use Rattle.session.proofs.sound.passed.Goals as goal
 
 pub returns-in-Passed : goal.returns-in-Passed

@@ -1,7 +1,6 @@
 use Rattle.states.proofs.Same.{zero_none, some_in}
 use Rattle.states.proofs.Answers.{said, denied, left}
 use native.Mathlib.Omega.{arith}
-use borrow.Author.Rules.{rules}
 use Rattle.session.proofs.sound.run_fits.Goals as goal
 
 pub returns-then-x-eq0 : goal.returns-then-x-eq0

@@ -1,12 +1,7 @@
 use Rattle.states.proofs.Answers.{said, fails}
-use borrow.Author.Tests.{not-false}
-use Rattle.session.specs.Session.{CellFits}
 use native.Mathlib.Decide.{ℕ_discrete}
 use mathlib.Core.Logic.{◌≢◌}
-use Prim.Native.Nat.{ℕ, ◌-◌, ◌≤◌, ◌<◌}
-use lib.ListN.{get_or}
 use native.Mathlib.Omega.{arith}
-use borrow.Author.Rules.{rules}
 use Rattle.session.proofs.sound.runs_fit.Goals as goal
 
 pub loop-r-init : goal.loop-r-init

@@ -1,5 +1,4 @@
 use Rattle.session.proofs.Clauses.{all_decide}
-use borrow.Author.Rules.{rules}
 use Rattle.session.proofs.sound.sound.Goals as goal
 
 pub returns : goal.returns

@@ -2,7 +2,6 @@ use Rattle.session.proofs.Passes.{table_counts, table_decided, small}
 use Rattle.states.proofs.Answers.{fails}
 use Rattle.table.specs.declared.answer.Test.TheVariants.{Passed}
 use Rattle.table.specs.Tests.{counts_test}
-use borrow.Author.Tests.{not-false}
 use lib.Dec.{lit<}
 use native.Mathlib.Nat.{mul-le-mul, lt_of_le_of_lt}
 use Prim.Native.Nat.{◌+◌, ◌≤◌}

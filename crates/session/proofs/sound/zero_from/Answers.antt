@@ -1,8 +1,5 @@
-use Rattle.session.proofs.Passes.{Zeros, zeros_none, zeros_more, zeros_all}
-use Prim.Native.Nat.{◌-◌}
-use lib.ListN.{length}
+use Rattle.session.proofs.Passes.{zeros_none, zeros_more, zeros_all}
 use native.Mathlib.Omega.{arith}
-use borrow.Author.Rules.{rules}
 use Rattle.session.proofs.sound.zero_from.Goals as goal
 
 pub loop-k-init : goal.loop-k-init
