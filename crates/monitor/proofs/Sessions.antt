@@ -23,7 +23,6 @@ use Rattle.states.specs.In.{In, Has}
 use Rattle.states.proofs.Same.{words_ext}
 use Rattle.session.specs.declared.Session.{Session}
 use Rattle.session.specs.declared.Flag.{Flag}
-use Rattle.session.specs.declared.Flag.TheVariants as flag
 use Rattle.monitor.specs.declared.feed.Fed as declared
 use Rattle.session.specs.Sets.{Holds}
 use Rattle.session.specs.Session.{table_in, kept, line, FlagFits, Sound, Proper, place_of}
@@ -174,10 +173,10 @@ module _ (s t : Session) (b : ℕ) (proper : Proper s) (w : Went s b t) where
   unfolding f h'
   held_at k i = f.held.places k i
 
-  flag_fits : (f g : Flag) → FlagFits s.events s.set f → FlagAfter s.events t.set f g → FlagFits t.events t.set g
-  flag_fits f g (l, n) stays = (omega (arith, w.to.events), λ x i. let m = (w.to.set x).0 i in n m.0 m.4)
-  flag_fits f g k (clear x i) = (x, i)
-  flag_fits f g k (falls n) = (omega (arith, w.to.events), n)
+  flag_fits : (f g : Flag) → FlagAfter s.events t.set f g → FlagFits s.events s.set f → FlagFits t.events t.set g
+  flag_fits f g stays (l, n) = (omega (arith, w.to.events), λ x i. let m = (w.to.set x).0 i in n m.0 m.4)
+  flag_fits f g (clear x i) k = (x, i)
+  flag_fits f g (falls n) k = (omega (arith, w.to.events), n)
 
   pub went_sound : Sound t
   unfolding f sound h'
@@ -194,7 +193,7 @@ module _ (s t : Session) (b : ℕ) (proper : Proper s) (w : Went s b t) where
         };
         seen = omega (arith, sound.seen, f.arrived, f.events);
         limit = omega (arith, w.room, f.events);
-        flag = flag_fits s.flag t.flag sound.flag f.flag;
+        flag = flag_fits s.flag t.flag f.flag sound.flag;
       }
 
   pub went_proper : Proper t

@@ -1,9 +1,7 @@
-use Rattle.states.proofs.Words.{Written, written_none, written_more}
-use lib.ListN.{get_or}
-use Prim.Native.Nat.{◌+◌, ◌-◌, ◌≤◌}
+use Rattle.states.proofs.Words.{written_none, written_more}
+use Prim.Native.Nat.{◌+◌}
 use mathlib.Core.Path.{◌≡◌}
 use native.Mathlib.Omega.{arith}
-use borrow.Author.Rules.{rules}
 use Rattle.monitor.proofs.event.forget.Goals as goal
 
 pub loop-k-init : goal.loop-k-init

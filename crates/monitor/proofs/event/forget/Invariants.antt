@@ -1,9 +1,6 @@
-use Rattle.states.proofs.Words.{Written, written_none, written_more}
+use Rattle.states.proofs.Words.{Written}
 use lib.ListN.{get_or}
 use Prim.Native.Nat.{◌+◌, ◌-◌, ◌≤◌}
-use mathlib.Core.Path.{◌≡◌}
-use native.Mathlib.Omega.{arith}
-use borrow.Author.Rules.{rules}
 use Rattle.monitor.proofs.event.forget.Given as goal
 
 abbrev pub invariant-loop-k : goal.invariant-loop-k

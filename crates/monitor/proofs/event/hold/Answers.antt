@@ -2,7 +2,6 @@ use Rattle.monitor.proofs.Lines.{held_room, held_full}
 use lib.ListN.{length-set}
 use mathlib.Core.Path.{refl}
 use native.Mathlib.Omega.{arith}
-use borrow.Author.Rules.{rules}
 use Rattle.monitor.proofs.event.hold.Goals as goal
 
 pub returns-then-n-most : goal.returns-then-n-most

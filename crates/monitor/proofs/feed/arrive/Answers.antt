@@ -1,5 +1,4 @@
 use Rattle.monitor.proofs.Feeding.{arrived_to}
-use borrow.Author.Rules.{rules}
 use Rattle.monitor.proofs.feed.arrive.Goals as goal
 
 pub returns : goal.returns

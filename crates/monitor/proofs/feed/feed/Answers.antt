@@ -1,9 +1,7 @@
 use Rattle.monitor.proofs.Feeding.{input_means, output_means}
 use Rattle.monitor.specs.Feed.{unsound, full, invalid, fed}
-use borrow.Author.Tests.{not-true, not-false}
 use mathlib.Core.Path.{sym, ◌∙◌}
 use native.Mathlib.Omega.{arith}
-use borrow.Author.Rules.{rules}
 use Rattle.monitor.proofs.feed.feed.Goals as goal
 
 pub returns-then-not-sound : goal.returns-then-not-sound

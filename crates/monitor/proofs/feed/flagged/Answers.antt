@@ -1,5 +1,4 @@
 use Rattle.monitor.specs.Feed.{stays, clear, falls}
-use borrow.Author.Rules.{rules}
 use Rattle.monitor.proofs.feed.flagged.Goals as goal
 
 pub returns-in-At : goal.returns-in-At

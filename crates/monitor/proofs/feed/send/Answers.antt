@@ -1,5 +1,4 @@
 use Rattle.monitor.proofs.Feeding.{sent_to}
-use borrow.Author.Rules.{rules}
 use Rattle.monitor.proofs.feed.send.Goals as goal
 
 pub returns : goal.returns

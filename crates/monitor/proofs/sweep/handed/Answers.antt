@@ -1,6 +1,5 @@
 use Rattle.states.proofs.Member.{not_in_zero}
 use native.Mathlib.Omega.{arith}
-use borrow.Author.Rules.{rules}
 use Rattle.monitor.proofs.sweep.handed.Goals as goal
 
 pub returns-then-r-c : goal.returns-then-r-c

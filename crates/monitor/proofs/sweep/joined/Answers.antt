@@ -1,7 +1,6 @@
 use lib.ListN.{length}
-use Rattle.monitor.proofs.Words.{Join, join_first, join_later, joined_to}
-use Rattle.states.proofs.Words.{Filled, filled_more}
-use Prim.Native.Nat.{◌-◌, ◌≤◌}
+use Rattle.monitor.proofs.Words.{join_first, join_later, joined_to}
+use Rattle.states.proofs.Words.{filled_more}
 use mathlib.Core.Path.{◌≡◌}
 use native.Mathlib.Omega.{arith}
 use borrow.Author.Rules.{rules}

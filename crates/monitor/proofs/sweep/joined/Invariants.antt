@@ -1,10 +1,6 @@
-use lib.ListN.{length}
-use Rattle.monitor.proofs.Words.{Join, join_first, join_later, joined_to}
-use Rattle.states.proofs.Words.{Filled, filled_more}
+use Rattle.monitor.proofs.Words.{Join}
+use Rattle.states.proofs.Words.{Filled}
 use Prim.Native.Nat.{◌-◌, ◌≤◌}
-use mathlib.Core.Path.{◌≡◌}
-use native.Mathlib.Omega.{arith}
-use borrow.Author.Rules.{rules}
 use Rattle.monitor.proofs.sweep.joined.Given as goal
 
 abbrev pub invariant-loop-r : goal.invariant-loop-r

@@ -1,7 +1,6 @@
 use mathlib.Core.Path.{refl}
-use Rattle.states.proofs.Words.{Written, written_none, written_more}
-use lib.ListN.{get_or}
-use Prim.Native.Nat.{◌-◌, ◌+◌, ◌*◌, ◌≤◌}
+use Rattle.states.proofs.Words.{written_none, written_more}
+use Prim.Native.Nat.{◌+◌}
 use mathlib.Core.Path.{◌≡◌}
 use native.Mathlib.Omega.{arith}
 use borrow.Author.Rules.{rules}

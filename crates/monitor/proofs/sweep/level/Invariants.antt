@@ -1,10 +1,6 @@
-use mathlib.Core.Path.{refl}
-use Rattle.states.proofs.Words.{Written, written_none, written_more}
+use Rattle.states.proofs.Words.{Written}
 use lib.ListN.{get_or}
 use Prim.Native.Nat.{◌-◌, ◌+◌, ◌*◌, ◌≤◌}
-use mathlib.Core.Path.{◌≡◌}
-use native.Mathlib.Omega.{arith}
-use borrow.Author.Rules.{rules}
 use Rattle.monitor.proofs.sweep.level.Given as goal
 
 abbrev pub invariant-loop-r : goal.invariant-loop-r

@@ -1,9 +1,7 @@
 use Rattle.monitor.proofs.Words.{raised_none, raised_more}
-use Rattle.monitor.specs.Sweep.{Raised}
-use Prim.Native.Nat.{◌-◌, ◌+◌, ◌*◌, ◌≤◌}
+use Prim.Native.Nat.{◌-◌, ◌+◌}
 use mathlib.Core.Path.{◌≡◌}
 use native.Mathlib.Omega.{arith}
-use borrow.Author.Rules.{rules}
 use Rattle.monitor.proofs.sweep.raise.Goals as goal
 
 pub loop-k-init : goal.loop-k-init

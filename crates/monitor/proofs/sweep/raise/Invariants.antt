@@ -1,9 +1,5 @@
-use Rattle.monitor.proofs.Words.{raised_none, raised_more}
 use Rattle.monitor.specs.Sweep.{Raised}
-use Prim.Native.Nat.{◌-◌, ◌+◌, ◌*◌, ◌≤◌}
-use mathlib.Core.Path.{◌≡◌}
-use native.Mathlib.Omega.{arith}
-use borrow.Author.Rules.{rules}
+use Prim.Native.Nat.{◌*◌, ◌≤◌}
 use Rattle.monitor.proofs.sweep.raise.Given as goal
 
 abbrev pub invariant-loop-k : goal.invariant-loop-k

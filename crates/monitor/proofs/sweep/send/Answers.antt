@@ -1,8 +1,7 @@
-use Rattle.monitor.proofs.Steps.{Sending, sending_none, sending_more, sending_all}
-use Prim.Native.Nat.{◌-◌, ◌+◌, ◌≤◌}
+use Rattle.monitor.proofs.Steps.{sending_none, sending_more, sending_all}
+use Prim.Native.Nat.{◌+◌}
 use mathlib.Core.Path.{◌≡◌}
 use native.Mathlib.Omega.{arith}
-use borrow.Author.Rules.{rules}
 use Rattle.monitor.proofs.sweep.send.Goals as goal
 
 pub loop-w-init : goal.loop-w-init
@@ -18,4 +17,4 @@ pub returns : goal.returns
 returns c =
     let e : c.loop-w.w ≡ c.args.n + 1 = omega arith in
     let s = rw e at c.loop-w.invariant.1 in
-    (sending_all _ _ _ _ _ _ s, omega (arith, s.size))
+    record { sent_on = sending_all _ _ _ _ _ _ s; set_len = omega (arith, s.size) }

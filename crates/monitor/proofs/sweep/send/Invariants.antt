@@ -1,8 +1,5 @@
-use Rattle.monitor.proofs.Steps.{Sending, sending_none, sending_more, sending_all}
+use Rattle.monitor.proofs.Steps.{Sending}
 use Prim.Native.Nat.{◌-◌, ◌+◌, ◌≤◌}
-use mathlib.Core.Path.{◌≡◌}
-use native.Mathlib.Omega.{arith}
-use borrow.Author.Rules.{rules}
 use Rattle.monitor.proofs.sweep.send.Given as goal
 
 abbrev pub invariant-loop-w : goal.invariant-loop-w

@@ -1,5 +1,4 @@
 use Rattle.monitor.proofs.Steps.{sent_level}
-use borrow.Author.Rules.{rules}
 use Rattle.monitor.proofs.sweep.send_level.Goals as goal
 
 pub returns : goal.returns

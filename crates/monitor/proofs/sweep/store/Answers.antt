@@ -1,10 +1,7 @@
 use mathlib.Core.Path.{refl}
-use Rattle.states.proofs.Words.{Written, written_none, written_more}
-use lib.ListN.{get_or}
-use Prim.Native.Nat.{◌-◌, ◌*◌, ◌≤◌}
+use Rattle.states.proofs.Words.{written_none, written_more}
 use mathlib.Core.Path.{◌≡◌}
 use native.Mathlib.Omega.{arith}
-use borrow.Author.Rules.{rules}
 use Rattle.monitor.proofs.sweep.store.Goals as goal
 
 pub loop-r-init : goal.loop-r-init

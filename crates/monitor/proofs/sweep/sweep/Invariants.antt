@@ -1,11 +1,7 @@
-use Rattle.monitor.proofs.Steps.{swept_more}
-use Rattle.monitor.proofs.Bridge.{swept_none}
 use Rattle.monitor.specs.Sweep.{SweptFrom}
 use lib.ListN.{length, take}
 use Prim.Native.Nat.{◌≤◌}
-use mathlib.Core.Path.{◌≡◌, refl}
-use native.Mathlib.Omega.{arith}
-use borrow.Author.Rules.{rules}
+use mathlib.Core.Path.{◌≡◌}
 use Rattle.monitor.proofs.sweep.sweep.Given as goal
 
 abbrev pub invariant-loop-w : goal.invariant-loop-w
