@@ -72,10 +72,10 @@ fn add_pair(t: Text, states: u64, least: u8, most: u8) -> Text
 {
     let s = text::add(t, b' ');
     if states == 0 {
-        return text::add(s, b'_');
+        return text::add(s, b'-');
     }
     let a = text::add_decimal(s, least as u64);
-    let b = text::add(a, b'_');
+    let b = text::add(a, b'-');
     text::add_decimal(b, most as u64)
 }
 
