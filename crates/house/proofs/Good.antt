@@ -29,7 +29,7 @@ use Rattle.house.specs.declared.answer.Refusal.TheVariants as refusal
 use Rattle.house.specs.declared.answer.Source.{Source}
 use Rattle.house.specs.declared.answer.Source.TheVariants.{Rows, Standard}
 use Rattle.house.specs.declared.answer.Verdict.TheVariants.{Passed}
-use Rattle.house.proofs.Contents.{Passes, shape_passed, held_passed, room_passed, verdict_passed}
+use Rattle.house.proofs.Tests.{Passes, shape_passed, held_passed, room_passed, verdict_passed}
 use Rattle.house.proofs.Events.{valid_all, valid_known}
 use Rattle.house.proofs.Forms.{form_passes}
 use Rattle.house.proofs.Verdicts.{must_passed, table_passed, then_passed}

@@ -21,7 +21,7 @@ use Rattle.house.specs.declared.answer.Verdict.TheVariants.{Passed}
 use Rattle.house.specs.Before.{SameFiles}
 use Rattle.house.proofs.Became
 use Rattle.house.proofs.Faults
-use Rattle.house.proofs.Contents.{good_passed, good_contents}
+use Rattle.house.proofs.Tests.{good_passed, good_contents}
 use Rattle.house.proofs.Events.{valid_known, valid_to}
 use Rattle.house.proofs.Files.{joined_short}
 use Rattle.house.proofs.Forms

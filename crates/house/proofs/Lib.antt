@@ -1,7 +1,7 @@
 pub mod Files
 pub mod Events
 pub mod Verdicts
-pub mod Contents
+pub mod Tests
 pub mod Forms
 pub mod Good
 pub mod Faults

@@ -2,7 +2,7 @@
 use mathlib.Core.Path.{◌∙◌}
 use borrow.Author.Rules.{rules}
 use Rattle.house.specs.File.{rows_of, events_of}
-use Rattle.house.proofs.Contents.{roomy, good_passed, handed_after}
+use Rattle.house.proofs.Tests.{roomy, good_passed, handed_after}
 use Rattle.house.proofs.read.Goals as goal
 
 pub returns : goal.returns
@@ -12,6 +12,6 @@ returns c =
     let r = c.judge-reading.result in
     record {
       reading = c.judge-reading.ensures;
-      rows = c.hand.ensures.0 ∙ handed_after r a.rows.now (rows_of s) (λ good. (roomy s _ _ (good_passed _ _ r c.judge-reading.ensures good)).0);
-      events = c.hand.ensures.1 ∙ handed_after r a.events.now (events_of s) (λ good. (roomy s _ _ (good_passed _ _ r c.judge-reading.ensures good)).1);
+      rows = c.hand.ensures.rows_after ∙ handed_after r a.rows.now (rows_of s) (λ good. (roomy s _ _ (good_passed _ _ r c.judge-reading.ensures good)).0);
+      events = c.hand.ensures.events_after ∙ handed_after r a.events.now (events_of s) (λ good. (roomy s _ _ (good_passed _ _ r c.judge-reading.ensures good)).1);
     }

@@ -4,4 +4,4 @@ use Rattle.house.proofs.unpack.Goals as goal
 
 pub returns : goal.returns
 returns c =
-    record { reading = c.held_by-reading.ensures; rows = c.hand.ensures.0; events = c.hand.ensures.1 }
+    record { reading = c.held_by-reading.ensures; rows = c.hand.ensures.rows_after; events = c.hand.ensures.events_after }

@@ -12,14 +12,11 @@ use Rattle.house.specs.Reading.{rows_test}
 use Rattle.house.proofs.Files.{put_back}
 use Rattle.house.proofs.content.entries.Goals as goal
 
-pub slice_bounds-entries-end : goal.slice_bounds-entries-end
-slice_bounds-entries-end c = sym (length-take-le _ _ (array-share-prefix-rows c.before))
-
 pub returns : goal.returns
 unfolding rows_test
 returns c =
     let a = c.args in
     let p = rows_of a.file.now in
     let l : length p ≤ length {A = ℕ} (replicate most_rows 0) = rw length-replicate (omega (arith, c.requires)) in
-    let back = put_back p (replicate most_rows 0) _ a.c.rows c.gather.ensures c.requires.0 l in
+    let back = put_back p (replicate most_rows 0) _ a.c.rows c.gather.ensures c.requires.rows_value l in
     rw (c.of_table.ensures, c.entries.ensures, back, c.held-states.ensures)

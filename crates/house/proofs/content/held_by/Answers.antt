@@ -3,7 +3,7 @@ use borrow.Author.Rules.{rules}
 use Rattle.house.proofs.content.held_by.Goals as goal
 
 pub returns-in-Refused : goal.returns-in-Refused
-returns-in-Refused c = rw (← c.in-Refused.ensures, c.in-Refused.is)
+returns-in-Refused c = rw (← c.form-form.ensures, c.in-Refused.is)
 
 pub returns-in-Passed : goal.returns-in-Passed
 returns-in-Passed c = rw (← c.form-form.ensures, c.in-Passed.is, c.contents.ensures)

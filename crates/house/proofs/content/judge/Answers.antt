@@ -3,7 +3,7 @@ use mathlib.Core.Path.{ap, ◌∙◌}
 use borrow.Author.Rules.{rules}
 use Rattle.house.specs.File.{contents_of}
 use Rattle.house.specs.declared.answer.Contents.{Contents}
-use Rattle.house.proofs.Contents.{form_refuses, form_leaves}
+use Rattle.house.proofs.Tests.{form_refuses, form_leaves}
 use Rattle.house.proofs.content.judge.Goals as goal
 
 pub content-requires : goal.content-requires
@@ -13,7 +13,7 @@ content-requires c = ap (λ (x : Contents). x.rows) c.contents-c.ensures
 pub returns-in-Refused : goal.returns-in-Refused
 returns-in-Refused c =
     let a = c.args in
-    form_refuses a.file.now a.rows a.events _ _ c.in-Refused.ensures c.in-Refused.is
+    form_refuses a.file.now a.rows a.events _ _ c.form-form.ensures c.in-Refused.is
 
 pub returns-in-Passed : goal.returns-in-Passed
 returns-in-Passed c =

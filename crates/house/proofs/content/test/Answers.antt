@@ -4,27 +4,24 @@ use borrow.Author.Rules.{rules}
 use Rattle.table.specs.Tests.{counts_test}
 use Rattle.table.specs.declared.answer.Test.TheVariants.{Passed}
 use Rattle.house.specs.Reading.{shape_test, held_test}
-use Rattle.house.proofs.Contents.{counts_small}
+use Rattle.house.proofs.Tests.{counts_small}
 use Rattle.house.proofs.content.test.Goals as goal
 
-counted : (c : tie.After-enum-told) → let a = c.before.before.before.before.before.args in counts_test a.states a.inputs a.outputs ≡ Passed
-counted c = sym c.before.before.counts.ensures ∙ c.enum_told.given.1
-
 pub overflow_cast-states : goal.overflow_cast-states
-overflow_cast-states c = let small = counts_small _ _ _ (counted c) in search rules
+overflow_cast-states c = let small = counts_small _ _ _ (sym c.counts-counts.ensures ∙ c.in-Passed.is) in search rules
 
 pub overflow_cast-inputs : goal.overflow_cast-inputs
-overflow_cast-inputs c = let small = counts_small _ _ _ (counted c) in search rules
+overflow_cast-inputs c = let small = counts_small _ _ _ (sym c.counts-counts.ensures ∙ c.in-Passed.is) in search rules
 
 pub overflow_cast-outputs : goal.overflow_cast-outputs
-overflow_cast-outputs c = let small = counts_small _ _ _ (counted c) in search rules
+overflow_cast-outputs c = let small = counts_small _ _ _ (sym c.counts-counts.ensures ∙ c.in-Passed.is) in search rules
 
 pub fitted-requires : goal.fitted-requires
-fitted-requires c = counted c
+fitted-requires c = sym c.counts-counts.ensures ∙ c.in-Passed.is
 
 pub returns-in-Refused : goal.returns-in-Refused
 unfolding shape_test held_test
-returns-in-Refused c = rw (← c.in-Refused.ensures, c.in-Refused.is)
+returns-in-Refused c = rw (← c.counts-counts.ensures, c.in-Refused.is)
 
 pub returns-in-Passed : goal.returns-in-Passed
 returns-in-Passed c = c.fitted.ensures

@@ -2,7 +2,6 @@
 use mathlib.Core.Path.{◌≡◌, sym, ◌∙◌}
 use Prim.Native.Nat.{◌-◌, ◌≤◌}
 use native.Mathlib.Omega.{arith}
-use borrow.Author.Tests.{not-true, not-false}
 use borrow.Author.Rules.{rules}
 use Rattle.house.specs.File.{blocks}
 use Rattle.house.specs.Reading.{blocks_test}
@@ -19,7 +18,7 @@ returns-then-not-passed c =
     let s = c.args.file.now in
     blocks_bad s l.k _ _ c.loop-k-test.true l.invariant.1
     (seen s _ _ l.k c.block_at.ensures c.block_before.ensures c.test-test.ensures c.of_block-v.ensures)
-    (sym c.passed.ensures ∙ not-true c.passed.result c.if-not-passed.true-raw)
+    (sym c.passed.ensures ∙ c.if-not-passed.true)
 
 pub loop-k-preserved : goal.loop-k-preserved
 loop-k-preserved c =
@@ -28,7 +27,7 @@ loop-k-preserved c =
       search rules,
       blocks_good s l.k _ l.invariant.1
           (seen s _ _ l.k c.block_at.ensures c.block_before.ensures c.test-test.ensures c.of_block-v.ensures)
-          (sym c.passed.ensures ∙ not-false c.passed.result c.if-not-passed.false-raw),
+          (sym c.passed.ensures ∙ c.if-not-passed.false),
     )
 
 pub returns : goal.returns
