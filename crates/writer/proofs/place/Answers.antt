@@ -9,29 +9,29 @@ use Rattle.writer.proofs.place.Goals as goal
 
 pub needed-n-requires : goal.needed-n-requires
 needed-n-requires c =
-    (omega (arith, c.requires.0.row_count, rows_fit _ _ _ c.requires.1), omega (arith, c.requires.0.event_count, c.requires.1.few))
+    record {
+      rows_bound = omega (arith, c.requires.counted.row_count, rows_fit _ _ _ c.requires.good_contents);
+      events_bound = omega (arith, c.requires.counted.event_count, c.requires.good_contents.few);
+    }
 
 pub returns-then-out-n : goal.returns-then-out-n
 returns-then-out-n c =
-    no_room c.args.c c.args.rows.now c.args.trace.now c.args.out.now _ c.needed-n.ensures c.requires.0 c.requires.1 c.if-out-n.true
+    no_room c.args.c c.args.rows.now c.args.trace.now c.args.out.now _ c.needed-n.ensures c.requires.counted c.requires.good_contents c.if-out-n.true
 
 pub slice_bounds-lay-end-2 : goal.slice_bounds-lay-end-2
 slice_bounds-lay-end-2 c = sym (length-take-le _ _ c.if-out-n.false)
 
 pub lay-requires : goal.lay-requires
 lay-requires c =
-    (
-      c.requires.0.row_count,
-      (
-        c.requires.0.event_count,
-        (
-          omega (arith, c.requires.0.row_count, rows_fit _ _ _ c.requires.1),
-          (omega (arith, c.requires.0.event_count, c.requires.1.few), length-take-le _ _ c.if-out-n.false ∙ c.needed-n.ensures),
-        ),
-      ),
-    )
+    record {
+      rows_value = c.requires.counted.row_count;
+      events_value = c.requires.counted.event_count;
+      rows_bound = omega (arith, c.requires.counted.row_count, rows_fit _ _ _ c.requires.good_contents);
+      events_bound = omega (arith, c.requires.counted.event_count, c.requires.good_contents.few);
+      out_len = length-take-le _ _ c.if-out-n.false ∙ c.needed-n.ensures;
+    }
 
 pub returns : goal.returns
 returns c =
-    placed c.args.c c.args.rows.now c.args.trace.now c.args.out.now _ c.needed-n.ensures c.requires.0 c.requires.1 _
+    placed c.args.c c.args.rows.now c.args.trace.now c.args.out.now _ c.needed-n.ensures c.requires.counted c.requires.good_contents _
     c.if-out-n.false c.lay.ensures

@@ -12,5 +12,5 @@ returns c =
     let copied = c.put_bytes in
     let checked = c.check-check in
     let ended = c.put_check in
-    written a.kind a.number checked.result _ a.payload.now a.out.now cleared.new.0 headed.new.0 copied.new.1.0 ended.new.0
-    c.requires.0 c.requires.1.1 refl cleared.ensures headed.ensures copied.ensures checked.ensures ended.ensures
+    written a.kind a.number checked.result _ a.payload.now a.out.now cleared.new.dst headed.new.out copied.new.dst ended.new.out
+    c.requires.out_len c.requires.payload_len_bound refl cleared.ensures headed.ensures copied.ensures checked.ensures ended.ensures

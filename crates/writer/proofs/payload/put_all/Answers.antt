@@ -13,25 +13,26 @@ use Rattle.writer.proofs.Files.{piece_short}
 use Rattle.writer.proofs.Laying.{run_none, run_put, run_full}
 use Rattle.writer.proofs.payload.put_all.Goals as goal
 
-room-left : (c : tie.In-loop invariant-loop decreases-loop) → block_size * c.before.loop.k + block_size ≤ length c.before.loop.out
-room-left c = omega (arith, c.before.loop.invariant.2, c.loop-test.true, c.before.before.blocks_for.ensures, c.before.before.before.before.before.requires)
-
 pub loop-k-init : goal.loop-k-init
 loop-k-init c =
     let a = c.args in
     (search rules, rw (run_none a.kind a.first a.payload.now), refl)
 
 pub slice_bounds-put-end : goal.slice_bounds-put-end
-slice_bounds-put-end c = search (rules, room-left c)
+slice_bounds-put-end c =
+    let long : block_size * c.loop-k.k + block_size ≤ length c.loop-k.out = omega (arith, c.blocks_for-n.ensures, c.requires.out_len) in
+    search (rules, long)
 
 pub put-requires : goal.put-requires
 put-requires c =
     let a = c.args in
     let k = c.loop-k.k in
-    let long : block_size * k + block_size ≤ length c.loop-k.out = room-left c.before in (
-      mid_len (block_size * k) (block_size * k + block_size) c.loop-k.out long ∙ omega arith,
-      (omega arith, rw c.piece.ensures (piece_short a.payload.now k)),
-    )
+    let long : block_size * k + block_size ≤ length c.loop-k.out = omega (arith, c.blocks_for-n.ensures, c.requires.out_len) in
+    record {
+      out_len = mid_len (block_size * k) (block_size * k + block_size) c.loop-k.out long ∙ omega arith;
+      number_bound = omega arith;
+      payload_len_bound = rw c.piece.ensures (piece_short a.payload.now k);
+    }
 
 pub loop-k-preserved : goal.loop-k-preserved
 loop-k-preserved c =
@@ -39,12 +40,12 @@ loop-k-preserved c =
     let l = c.loop-k in
     let b = c.put.ensures ∙ ap (block_of a.kind (a.first + l.k)) c.piece.ensures in (
       search rules,
-      run_put a.kind a.first a.payload.now a.out.now l.out c.put.new.0 l.k l.invariant.1 b,
-      omega (arith, c.out-1.given, l.invariant.2),
+      run_put a.kind a.first a.payload.now a.out.now l.out c.put.new.out l.k l.invariant.1 b,
+      omega arith,
     )
 
 pub returns : goal.returns
 returns c =
     let a = c.args in
     let l = c.loop-k in
-    run_full a.kind a.first a.payload.now a.out.now l.out l.k l.invariant.1 (omega arith) c.requires.1.1
+    run_full a.kind a.first a.payload.now a.out.now l.out l.k l.invariant.1 (omega arith) c.requires.out_len
