@@ -1,6 +1,5 @@
 -- `answer::after` meets its contract, arm by arm. Assumes nothing.
 use borrow.Author.Tests.{lt-ltb, le-ltb}
-use borrow.Author.Rules.{rules}
 use Rattle.capture.proofs.answer.after.Goals as goal
 
 pub returns-then-place-ge-MOST_EVENTS : goal.returns-then-place-ge-MOST_EVENTS

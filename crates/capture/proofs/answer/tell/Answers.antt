@@ -1,6 +1,5 @@
 -- `answer::tell` meets its contract, arm by arm. Assumes nothing.
 use Rattle.capture.specs.Refusals.{told}
-use borrow.Author.Rules.{rules}
 use Rattle.capture.proofs.answer.tell.Goals as goal
 
 pub returns-in-Header : goal.returns-in-Header

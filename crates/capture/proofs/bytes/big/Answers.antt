@@ -1,6 +1,5 @@
 -- `bytes::big` meets its contract. Assumes nothing.
 use Rattle.capture.specs.Capture.{big}
-use borrow.Author.Rules.{rules}
 use Rattle.capture.proofs.bytes.big.Goals as goal
 
 pub returns : goal.returns

@@ -1,7 +1,6 @@
 -- `bytes::byte` meets its contract. Assumes nothing.
 use mathlib.Core.Path.{sym}
 use lib.ListN.{get_or-eq_default}
-use borrow.Author.Rules.{rules}
 use Rattle.capture.proofs.bytes.byte.Goals as goal
 
 pub returns-else-i-s : goal.returns-else-i-s

@@ -1,5 +1,4 @@
 -- `bytes::four` meets its contract, in either byte order. Assumes nothing.
-use borrow.Author.Rules.{rules}
 use Rattle.capture.proofs.bytes.four.Goals as goal
 
 pub returns-then-big : goal.returns-then-big

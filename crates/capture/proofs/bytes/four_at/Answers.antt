@@ -1,5 +1,4 @@
 -- `bytes::four_at` meets its contract. Assumes nothing.
-use borrow.Author.Rules.{rules}
 use Rattle.capture.proofs.bytes.four_at.Goals as goal
 
 pub returns : goal.returns

@@ -6,7 +6,7 @@ use Rattle.capture.proofs.bytes.of_layout.Goals as goal
 
 pub returns-in-0-to-15 : goal.returns-in-0-to-15
 unfolding of_layout
-returns-in-0-to-15 c = simp (lt-ltb _ _ c.if-byte-lt16.true)
+returns-in-0-to-15 c = simp (lt-ltb c.args.byte 16 (omega arith))
 
 pub returns-in-128-to-143 : goal.returns-in-128-to-143
 unfolding of_layout

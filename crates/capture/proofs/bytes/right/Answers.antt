@@ -1,6 +1,5 @@
 -- `bytes::right` meets its contract. Assumes nothing.
 use Rattle.capture.specs.Capture.{right}
-use borrow.Author.Rules.{rules}
 use Rattle.capture.proofs.bytes.right.Goals as goal
 
 pub returns : goal.returns

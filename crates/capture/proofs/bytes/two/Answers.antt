@@ -1,5 +1,4 @@
 -- `bytes::two` meets its contract, in either byte order. Assumes nothing.
-use borrow.Author.Rules.{rules}
 use Rattle.capture.proofs.bytes.two.Goals as goal
 
 pub returns-then-big : goal.returns-then-big

@@ -2,21 +2,19 @@
 use mathlib.Core.Path.{sym, ap, ◌∙◌}
 use lib.ListN.{length}
 use native.Mathlib.Omega.{arith}
-use borrow.Author.Tests.{not-true, not-false}
 use Rattle.capture.proofs.Records.{begins}
 use Rattle.capture.proofs.Takes.{unheaded, part_ended, part_tested}
-use borrow.Author.Rules.{rules}
 use Rattle.capture.proofs.reader.taken_at.Goals as goal
 
 pub returns-then-not-headed : goal.returns-then-not-headed
 returns-then-not-headed c =
     let a = c.args in
-    unheaded a.capture.now a.i (sym c.headed.ensures ∙ not-true c.headed.result c.if-not-headed.true-raw)
+    unheaded a.capture.now a.i (sym c.headed.ensures ∙ c.if-not-headed.true)
 
 pub returns-then-part-eq0 : goal.returns-then-part-eq0
 returns-then-part-eq0 c =
     let a = c.args in
-    part_ended a.capture.now a.i _ c.record_at-part.ensures (sym c.headed.ensures ∙ not-false c.headed.result c.if-not-headed.false-raw) c.if-part-eq0.true
+    part_ended a.capture.now a.i _ c.record_at-part.ensures (sym c.headed.ensures ∙ c.if-not-headed.false) c.if-part-eq0.true
 
 pub tested-requires : goal.tested-requires
 tested-requires c =
@@ -27,6 +25,6 @@ tested-requires c =
 pub returns : goal.returns
 returns c =
     let a = c.args in
-    part_tested a.capture.now a.i _ c.record_at-part.ensures (sym c.headed.ensures ∙ not-false c.headed.result c.if-not-headed.false-raw)
+    part_tested a.capture.now a.i _ c.record_at-part.ensures (sym c.headed.ensures ∙ c.if-not-headed.false)
     c.if-part-eq0.false c.octet-byte.ensures c.big.ensures c.right-right.ensures
     c.of_layout.ensures c.tested.ensures

@@ -1,10 +1,8 @@
 -- `whole::gather` meets its contract. The octets passed stand at the start of the buffer. Assumes nothing.
 use mathlib.Core.Path.{◌≡◌, sym, refl}
-use Prim.Native.Nat.{◌-◌, ◌≤◌}
 use native.Mathlib.Omega.{arith}
-use lib.ListN.{length, length-set}
-use Rattle.capture.specs.Capture.{records, octets}
-use Rattle.lent.specs.Lent.{front}
+use lib.ListN.{length-set}
+use Rattle.capture.specs.Capture.{records}
 use Rattle.capture.proofs.Records.{octets_none, octet_of, octet_put}
 use borrow.Author.Rules.{rules}
 use Rattle.capture.proofs.whole.gather.Goals as goal

@@ -1,11 +1,8 @@
-use mathlib.Core.Path.{◌≡◌, sym, refl}
+use mathlib.Core.Path.{◌≡◌}
 use Prim.Native.Nat.{◌-◌, ◌≤◌}
-use native.Mathlib.Omega.{arith}
-use lib.ListN.{length, length-set}
-use Rattle.capture.specs.Capture.{records, octets}
+use lib.ListN.{length}
+use Rattle.capture.specs.Capture.{octets}
 use Rattle.lent.specs.Lent.{front}
-use Rattle.capture.proofs.Records.{octets_none, octet_of, octet_put}
-use borrow.Author.Rules.{rules}
 use Rattle.capture.proofs.whole.gather.Given as goal
 
 abbrev pub invariant-loop-k : goal.invariant-loop-k

@@ -1,6 +1,5 @@
 -- `whole::judge` meets its contract. Assumes nothing.
 use Rattle.capture.specs.Importing.{imported}
-use borrow.Author.Rules.{rules}
 use Rattle.capture.proofs.whole.judge.Goals as goal
 
 pub returns : goal.returns

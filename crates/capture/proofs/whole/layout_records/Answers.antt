@@ -1,10 +1,8 @@
 -- `whole::layout_records` meets its contract. The octets passed are events. Assumes nothing.
 use mathlib.Core.Path.{◌≡◌, sym, ◌∙◌}
-use Prim.Native.Nat.{◌-◌, ◌≤◌}
 use native.Mathlib.Omega.{arith}
-use borrow.Author.Tests.{not-true, not-false}
 use Rattle.capture.specs.Capture.{records, layout_at}
-use Rattle.capture.proofs.Passing.{Pass, pass_more, passing_all, passing_to}
+use Rattle.capture.proofs.Passing.{pass_more, passing_all, passing_to}
 use Rattle.capture.proofs.Records.{layout_of}
 use borrow.Author.Rules.{rules}
 use Rattle.capture.proofs.whole.layout_records.Goals as goal
@@ -18,7 +16,7 @@ returns-then-not-of_layout c =
     let n = c.records-n.ensures in
     passing_to (layout_at s) (records s) c.loop-k.k (omega arith) c.loop-k.invariant.1
     (sym (layout_of s c.loop-k.k _ c.record_at.ensures c.octet.ensures c.of_layout.ensures)
-    ∙ not-true c.of_layout.result c.if-not-of_layout.true-raw)
+    ∙ c.if-not-of_layout.true)
 
 pub loop-k-preserved : goal.loop-k-preserved
 loop-k-preserved c =
@@ -26,7 +24,7 @@ loop-k-preserved c =
       search rules,
       pass_more (layout_at s) c.loop-k.k c.loop-k.invariant.1
           (sym (layout_of s c.loop-k.k _ c.record_at.ensures c.octet.ensures c.of_layout.ensures)
-          ∙ not-false c.of_layout.result c.if-not-of_layout.false-raw),
+          ∙ c.if-not-of_layout.false),
     )
 
 pub returns : goal.returns

@@ -1,11 +1,6 @@
-use mathlib.Core.Path.{◌≡◌, sym, ◌∙◌}
 use Prim.Native.Nat.{◌-◌, ◌≤◌}
-use native.Mathlib.Omega.{arith}
-use borrow.Author.Tests.{not-true, not-false}
-use Rattle.capture.specs.Capture.{records, layout_at}
-use Rattle.capture.proofs.Passing.{Pass, pass_more, passing_all, passing_to}
-use Rattle.capture.proofs.Records.{layout_of}
-use borrow.Author.Rules.{rules}
+use Rattle.capture.specs.Capture.{layout_at}
+use Rattle.capture.proofs.Passing.{Pass}
 use Rattle.capture.proofs.whole.layout_records.Given as goal
 
 abbrev pub invariant-loop-k : goal.invariant-loop-k

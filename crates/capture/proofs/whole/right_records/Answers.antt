@@ -1,10 +1,8 @@
 -- `whole::right_records` meets its contract. The records passed are right. Assumes nothing.
 use mathlib.Core.Path.{◌≡◌, sym, ◌∙◌}
-use Prim.Native.Nat.{◌-◌, ◌≤◌}
 use native.Mathlib.Omega.{arith}
-use borrow.Author.Tests.{not-true, not-false}
 use Rattle.capture.specs.Capture.{records, right_at}
-use Rattle.capture.proofs.Passing.{Pass, pass_more, passing_all, passing_to}
+use Rattle.capture.proofs.Passing.{pass_more, passing_all, passing_to}
 use Rattle.capture.proofs.Records.{right_of}
 use borrow.Author.Rules.{rules}
 use Rattle.capture.proofs.whole.right_records.Goals as goal
@@ -18,7 +16,7 @@ returns-then-not-right c =
     let n = c.records-n.ensures in
     passing_to (right_at s) (records s) c.loop-k.k (omega arith) c.loop-k.invariant.1
     (sym (right_of s c.loop-k.k _ c.record_at.ensures c.big-big.ensures c.right.ensures)
-    ∙ not-true c.right.result c.if-not-right.true-raw)
+    ∙ c.if-not-right.true)
 
 pub loop-k-preserved : goal.loop-k-preserved
 loop-k-preserved c =
@@ -26,7 +24,7 @@ loop-k-preserved c =
       search rules,
       pass_more (right_at s) c.loop-k.k c.loop-k.invariant.1
           (sym (right_of s c.loop-k.k _ c.record_at.ensures c.big-big.ensures c.right.ensures)
-          ∙ not-false c.right.result c.if-not-right.false-raw),
+          ∙ c.if-not-right.false),
     )
 
 pub returns : goal.returns
