@@ -1,5 +1,4 @@
 -- `of_hand` meets its contract. Assumes nothing.
-use borrow.Author.Rules.{rules}
 use Rattle.capturedoors.proofs.of_hand.Goals as goal
 
 pub returns : goal.returns

@@ -2,7 +2,6 @@
 use borrow.Author.Tests.{lt-leb, le-leb}
 use Rattle.capturedoors.specs.Results as doors
 use Rattle.capturedoors.proofs.Answers.{imports_by}
-use borrow.Author.Rules.{rules}
 use Rattle.capturedoors.proofs.rillmoth_import.Goals as goal
 
 pub returns-then-told-lt-IMPORT : goal.returns-then-told-lt-IMPORT

@@ -1,5 +1,4 @@
 -- `told_imported` meets its contract. Assumes nothing.
-use borrow.Author.Rules.{rules}
 use Rattle.capturedoors.proofs.told_imported.Goals as goal
 
 pub returns-in-Refused : goal.returns-in-Refused

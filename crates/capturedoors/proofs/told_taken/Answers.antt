@@ -1,5 +1,4 @@
 -- `told_taken` meets its contract. Assumes nothing.
-use borrow.Author.Rules.{rules}
 use Rattle.capturedoors.proofs.told_taken.Goals as goal
 
 pub returns-in-Refused : goal.returns-in-Refused
