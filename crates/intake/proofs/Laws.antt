@@ -3,12 +3,12 @@ use mathlib.Core.Path.{◌≡◌, refl, sym, ◌∙◌, ap}
 use mathlib.Core.Bool.{Bool, true, false, cond, ◌||◌}
 use mathlib.Core.List.{List, [], ◌∷◌, ◌++◌}
 use mathlib.Core.Logic.{◌⊎◌, inl, inr, ⊎_elim}
-use Prim.Native.Nat.{ℕ, ◌+◌, ◌≤◌, ◌<◌, min}
+use Prim.Native.Nat.{ℕ, ◌+◌, ◌≤◌, ◌<◌}
 use native.Mathlib.Omega.{arith}
 use lib.Dec.{eqb}
 use lib.ListN.{length}
 use borrow.Author.Tests.{eq-eqb, ne_eqb, eqb-true}
-use Rattle.intake.specs.Inputs.{most_count, sum_of, counted, ended, is_whole, input_of, Keeps}
+use Rattle.intake.specs.Inputs.{most_count, sum_of, ended, input_of}
 use Rattle.intake.specs.Laws.{resumed, of, failure, reads_of, total}
 use Rattle.intake.specs.Laws.{ReadByRead, AllCounted, FailureTold, TrueLength, WholeKept, OneTold}
 use Rattle.intake.specs.declared.Counted.TheVariants.{Over, More}

@@ -1,5 +1,5 @@
 -- What is told of an input, from the counts of its reads. What was read the logic does not say, only how many bytes came. Assumes nothing.
-use Rattle.std.specs.Prelude.{◌≡◌, Bool, true, false, cond, ◌||◌, List, [], ◌∷◌, ℕ, ◌+◌, min, eqb, length}
+use Rattle.std.specs.Prelude.{◌≡◌, Bool, false, cond, ◌||◌, List, [], ◌∷◌, ℕ, ◌+◌, min, eqb, length}
 use Rattle.io.specs.Counts.{IsPrefixLen}
 use Rattle.intake.specs.declared.Counted.{Counted}
 use Rattle.intake.specs.declared.Counted.TheVariants.{Over, More}

@@ -3,7 +3,12 @@
 #![tactic(auto)]
 
 ghost use Rattle.std.specs.Prelude.{◌≡◌, ◌+◌, min, replicate};
+ghost use Rattle.io.specs.Counts.{IsPrefixLen};
 ghost use Rattle.intake.specs.Inputs.{counted, is_whole, input_of, Keeps};
+
+mod descriptor;
+
+pub use descriptor::Descriptor;
 
 // One byte more than the longest house file, so that a file that is too long shows.
 const FILE_ROOM: usize = 7681;
@@ -40,12 +45,17 @@ struct Read {
     bytes: usize,
 }
 
-fn next(fd: i32) -> Read {
+fn next<R: std::io::Read>(input: &mut R) -> Read {
     let mut chunk = io::buffer();
-    let got = libc::read(fd, &mut chunk);
-    Read {
-        failed: got < 0,
-        bytes: io::count(got, &chunk),
+    match input.read(&mut chunk) {
+        Ok(bytes) => Read {
+            failed: false,
+            bytes,
+        },
+        Err(_) => Read {
+            failed: true,
+            bytes: 0,
+        },
     }
 }
 
@@ -70,11 +80,11 @@ fn count(total: usize, read: Read) -> Counted
 }
 
 // Reads to the end, and keeps nothing.
-fn rest(fd: i32) -> Ended {
+fn rest<R: std::io::Read>(input: &mut R) -> Ended {
     let mut total: usize = 0;
     let mut reads: usize = 0;
     while reads < MOST_READS {
-        let counted = count(total, next(fd));
+        let counted = count(total, next(input));
         match counted {
             Counted::Over(ended) => return ended,
             Counted::More(more) => total = more,
@@ -123,11 +133,33 @@ fn told(n: usize, room: usize, ended: Ended) -> Input
     }
 }
 
+// Reads until the buffer is full, the input ends or a read fails, and tells how many bytes stand at the buffer's start.
+fn fill<R: std::io::Read>(input: &mut R, buffer: &mut [u8]) -> usize
+    ensures { IsPrefixLen result buffer.new }
+{
+    let mut done = 0;
+    while done < buffer.len() {
+        match input.read(&mut buffer[done..]) {
+            Ok(0) => break,
+            Ok(n) => done += n,
+            Err(_) => break,
+        }
+    }
+    done
+}
+
 // Reads an input to its end; what fits stands at the start of the buffer.
+pub fn keep_from<R: std::io::Read>(input: &mut R, buffer: &mut [u8]) -> Input
+    ensures { Keeps buffer.new result }
+{
+    let n = fill(input, &mut *buffer);
+    let ended = rest(input);
+    told(n, buffer.len(), ended)
+}
+
+// The same of an input that a descriptor gives.
 pub fn keep(fd: i32, buffer: &mut [u8]) -> Input
     ensures { Keeps buffer.new result }
 {
-    let n = io::read_full(fd, buffer);
-    let ended = rest(fd);
-    told(n, buffer.len(), ended)
+    keep_from(&mut Descriptor::new(fd), buffer)
 }

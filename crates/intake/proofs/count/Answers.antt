@@ -1,7 +1,6 @@
 -- `count` meets its contract. Assumes nothing.
 use mathlib.Core.Path.{ap}
 use borrow.Author.Tests.{eq-eqb, ne_eqb}
-use borrow.Author.Rules.{rules}
 use Rattle.intake.specs.declared.Counted.TheVariants.{More}
 use Rattle.intake.proofs.count.Goals as goal
 

@@ -2,7 +2,6 @@
 use mathlib.Core.Path.{◌≡◌}
 use mathlib.Core.Bool.{Bool}
 use Prim.Native.Nat.{ℕ}
-use borrow.Author.Rules.{rules}
 use Rattle.intake.specs.declared.Input.{Input}
 use Rattle.intake.proofs.told.Goals as goal
 

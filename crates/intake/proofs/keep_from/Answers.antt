@@ -1,15 +1,14 @@
--- `keep` meets its contract. Assumes nothing.
+-- `keep_from` meets its contract. Assumes nothing.
 use mathlib.Core.Path.{◌≡◌, refl, sym, ap, ◌∙◌}
 use mathlib.Core.List.{List}
 use Prim.Native.Nat.{ℕ}
 use lib.ListN.{length}
-use borrow.Author.Rules.{rules}
 use Rattle.io.specs.Counts.{IsPrefixLen}
 use Rattle.intake.specs.Inputs.{input_of, Keeps}
 use Rattle.intake.specs.declared.Ended.{Ended}
 use Rattle.intake.specs.declared.Ended.TheVariants.{After, Failed}
 use Rattle.intake.specs.declared.Input.{Input}
-use Rattle.intake.proofs.keep.Goals as goal
+use Rattle.intake.proofs.keep_from.Goals as goal
 
 keeps : (r : Input) (b : List ℕ) (n : ℕ) (how : Ended) → IsPrefixLen n b → r ≡ input_of n (length b) how → Keeps b r
 keeps r b n how c e =
@@ -21,6 +20,6 @@ keeps r b n how c e =
     kept (After more) = refl
 
 pub returns : goal.returns
-returns c =
-    let got = c.read_full-n in
+returns g c =
+    let got = c.fill-n in
     keeps c.told.result _ got.result c.rest-ended.result got.ensures c.told.ensures

@@ -1,0 +1,76 @@
+// A descriptor by its number, as a reader. The kit's `io` reads one until a buffer is full, the input ends or a read fails, and does not
+// tell the last two apart; that the system noted an error does.
+use std::io::{Error, ErrorKind, Read, Result};
+use std_io::io::last_error;
+
+// The system's number of the error that a call on no open descriptor notes.
+const NOT_OPEN: i32 = 9;
+
+// What a read came upon after the bytes that it gave.
+#[derive(Clone, Copy)]
+enum Then {
+    // More, as far as is known.
+    More,
+    End,
+    Failure(Error),
+}
+
+// What a read comes upon after its bytes is told at the next, and no call is made for it.
+#[derive(Drop)]
+pub struct Descriptor {
+    number: i32,
+    then: Then,
+}
+
+impl Descriptor {
+    pub fn new(number: i32) -> Descriptor {
+        Descriptor {
+            number,
+            then: Then::More,
+        }
+    }
+}
+
+// Leaves one error noted that no read of an open descriptor notes.
+fn note() {
+    let mut none = [0u8; 1];
+    io::read_full(-1, &mut none);
+}
+
+// What a read came upon that did not fill its buffer.
+fn came_upon() -> Then {
+    let e = last_error();
+    if e.raw_os_error() == Some(NOT_OPEN) {
+        return Then::End;
+    }
+    Then::Failure(e)
+}
+
+impl Read for Descriptor {
+    fn read(&mut self, buf: &mut [u8]) -> Result<usize> {
+        let then = self.then;
+        self.then = Then::More;
+        match then {
+            Then::More => {}
+            Then::End => return Ok(0),
+            Then::Failure(e) => return Err(e),
+        }
+        if self.number < 0 {
+            return Err(Error::from(ErrorKind::InvalidInput));
+        }
+        note();
+        let n = io::read_full(self.number, &mut *buf);
+        if n == buf.len() {
+            return Ok(n);
+        }
+        let then = came_upon();
+        if n > 0 {
+            self.then = then;
+            return Ok(n);
+        }
+        match then {
+            Then::Failure(e) => Err(e),
+            _ => Ok(0),
+        }
+    }
+}
