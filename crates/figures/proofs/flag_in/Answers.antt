@@ -1,5 +1,5 @@
 -- `flag_in` meets its contract. Assumes nothing.
-use Rattle.std.proofs.Common.{◌≡◌, ℕ, zero, suc, ◌-◌, ◌^◌, ◌<◌, sym, refl, ap, ◌∙◌, arith, rules}
+use Rattle.std.proofs.Common.{◌≡◌, ℕ, zero, suc, ◌-◌, ◌^◌, ◌<◌, sym, refl, ap, ◌∙◌, arith}
 use Rattle.session.specs.declared.Flag.{Flag}
 use Rattle.session.specs.declared.Flag.TheVariants as flag
 use Rattle.figures.specs.Figures.{flag_word, flag_in}
@@ -21,9 +21,9 @@ fits f n e h = rw (e, flag_kept n) h
 pub returns-then-word-eq0 : goal.returns-then-word-eq0
 returns-then-word-eq0 c =
     let e = sym (ap flag_in c.if-word-eq0.true ∙ none) in
-    (e, fits _ c.args.word e (omega arith))
+    record { value = e; result_bound = fits _ c.args.word e (omega arith) }
 
 pub returns : goal.returns
 returns c =
     let e = sym (some _ c.if-word-eq0.false) in
-    (e, fits _ c.args.word e (omega arith))
+    record { value = e; result_bound = fits _ c.args.word e (omega arith) }

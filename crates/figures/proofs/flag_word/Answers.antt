@@ -1,5 +1,4 @@
 -- `flag_word` meets its contract. Assumes nothing.
-use Rattle.std.proofs.Common.{rules}
 use Rattle.figures.specs.Figures.{flag_word}
 use Rattle.figures.proofs.flag_word.Goals as goal
 
@@ -9,4 +8,4 @@ returns-in-None c = rw c.in-None.is
 
 pub returns-in-At : goal.returns-in-At
 unfolding flag_word
-returns-in-At c = rw (c.wrapping_add_u64.ensures, c.in-At.is)
+returns-in-At c = rw (c.wrapping_add_u64.ensures.value, c.in-At.is)

@@ -1,5 +1,4 @@
 -- `told` meets its contract. Assumes nothing.
-use Rattle.std.proofs.Common.{rules}
 use Rattle.figures.proofs.told.Goals as goal
 
 pub returns-in-Passed : goal.returns-in-Passed
