@@ -3,4 +3,4 @@ use borrow.Author.Rules.{rules}
 use Rattle.sessiondoors.proofs.of_test.Goals as goal
 
 pub returns : goal.returns
-returns c = rw c.told.ensures
+returns c = rw c.told-t.ensures

@@ -23,7 +23,7 @@ put_words-requires c =
     let r = room c.args.words.now c.args.bytes.now c.args.told.now (passed _ c.roomy.ensures c.if-not-roomy.false-raw) in
     let e = c.session_in.ensures in
     let p = proper_in c.args.words.now c.args.bytes.now r.words r.bytes in
-    (r.words, fed_small c.session_in.result c.args.byte c.feed-fed.result (rw e.0 p) e.1 c.feed-fed.ensures)
+    (r.words, fed_small c.session_in.result c.args.byte c.feed-fed.result (rw e.value p) e.flag_bound c.feed-fed.ensures)
 
 pub put_held-requires : goal.put_held-requires
 put_held-requires c =
@@ -37,7 +37,7 @@ returns c =
     let b = at.bytes.now in
     let enough = passed _ c.roomy.ensures c.if-not-roomy.false-raw in
     let f = c.feed-fed.result in
-    let e : Feeds (session_in w b) at.byte f = rw c.session_in.ensures.0 at c.feed-fed.ensures in
+    let e : Feeds (session_in w b) at.byte f = rw c.session_in.ensures.value at c.feed-fed.ensures in
     let r = room w b at.told.now enough in
     let n = fed_held _ _ _ (proper_in w b r.words r.bytes).held e in
     feeds_by

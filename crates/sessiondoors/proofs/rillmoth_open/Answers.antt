@@ -12,13 +12,13 @@ returns-then-not-roomy c = doors.short (failed _ c.roomy.ensures c.if-not-roomy.
 pub returns-then-results-ne0 : goal.returns-then-results-ne0
 returns-then-results-ne0 c =
     let enough = passed _ c.roomy.ensures c.if-not-roomy.false-raw in
-    refuses_by c.«open».result enough c.«open».ensures c.if-results-ne0.true c.of_test-results.ensures c.put_words.ensures
+    refuses_by c.open-opened.result enough c.open-opened.ensures c.if-results-ne0.true c.of_test-results.ensures c.put_words.ensures
 
 pub put_words-requires-2 : goal.put_words-requires-2
 put_words-requires-2 c =
     let at = c.args in
     let r = room at.words.now at.bytes.now at.told.now (passed _ c.roomy.ensures c.if-not-roomy.false-raw) in
-    (r.words, rw c.«open».ensures (opened_small _ _ _ _ _ _))
+    (r.words, rw c.open-opened.ensures (opened_small _ _ _ _ _ _))
 
 pub put_bytes-requires : goal.put_bytes-requires
 put_bytes-requires c =
@@ -29,9 +29,9 @@ pub returns : goal.returns
 returns c =
     let enough = passed _ c.roomy.ensures c.if-not-roomy.false-raw in
     opens_by
-    c.«open».result
+    c.open-opened.result
     enough
-    c.«open».ensures
+    c.open-opened.ensures
     c.if-results-ne0.false
     c.put_words-2.ensures
     c.put_bytes.ensures

@@ -6,4 +6,7 @@ use Rattle.sessiondoors.proofs.layout.session_in.Goals as goal
 
 pub returns : goal.returns
 unfolding session_in
-returns c = (rw (c.set_in-set.ensures, c.rows_in-rows.ensures, c.held_in-held.ensures, c.flag_in-flag.ensures.0, held_part), c.flag_in-flag.ensures.1)
+returns c = record {
+  value = rw (c.set_in-set.ensures, c.rows_in-rows.ensures, c.held_in-held.ensures, c.flag_in-flag.ensures.value, held_part);
+  flag_bound = c.flag_in-flag.ensures.result_bound;
+}
