@@ -6,4 +6,4 @@ use borrow.Author.Rules.{rules}
 use Rattle.lines.proofs.text.add_decimal.Goals as goal
 
 pub returns : goal.returns
-returns c = let w = c.decimal-k.ensures in adds_same (w.1.1 ∙ decimal_digits _ _ (search rules) w.1.0) c.add_all.ensures
+returns c = let w = c.decimal-k.ensures in adds_same (w.digits ∙ decimal_digits _ _ (search rules) w.len) c.add_all.ensures

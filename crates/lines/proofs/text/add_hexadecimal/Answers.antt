@@ -6,4 +6,4 @@ use borrow.Author.Rules.{rules}
 use Rattle.lines.proofs.text.add_hexadecimal.Goals as goal
 
 pub returns : goal.returns
-returns c = let w = c.hex-k.ensures in adds_same (w.1.1 ∙ hexadecimal_digits _ _ (search rules) w.1.0) c.add_all.ensures
+returns c = let w = c.hex-k.ensures in adds_same (w.digits ∙ hexadecimal_digits _ _ (search rules) w.len) c.add_all.ensures
