@@ -1,8 +1,8 @@
 -- The words by lag: what each loop has done so far, and one step more. Assumes nothing.
-use mathlib.Core.Path.{◌≡◌, refl, sym, ap, ◌∙◌}
+use mathlib.Core.Path.{◌≡◌, refl, ◌∙◌}
 use mathlib.Core.List.{List}
 use mathlib.Core.Logic.{◌↔◌, ◌≢◌, ◌⊎◌, inl, inr, ⊎_elim}
-use Prim.Native.Nat.{ℕ, zero, suc, ◌+◌, ◌-◌, ◌*◌, ◌%◌, ◌^◌, ◌≤◌, ◌<◌, min}
+use Prim.Native.Nat.{ℕ, suc, ◌+◌, ◌-◌, ◌≤◌, ◌<◌, min}
 use native.Mathlib.Omega.{arith}
 use native.Mathlib.Decide.{ℕ_discrete}
 use lib.Bits.{bit_or}
@@ -10,7 +10,7 @@ use lib.ListN.{length, get_or, set, length-set}
 use lib.Seq.{get_or-set_same, get_or-set_other}
 use Rattle.model.proofs.Flags.{lt_or_ge}
 use Rattle.states.specs.In.{In}
-use Rattle.states.specs.Rows.{Leads, Image}
+use Rattle.states.specs.Rows.{Image}
 use Rattle.states.proofs.Member.{not_in_zero, in_or}
 use Rattle.states.proofs.Words.{Written}
 use Rattle.states.proofs.Same.{some_in, zero_none}

@@ -1,12 +1,12 @@
 -- The line of a tally is the line of the set that its words stand for. Assumes nothing.
-use mathlib.Core.Path.{◌≡◌, refl, sym, ap, ◌∙◌}
+use mathlib.Core.Path.{◌≡◌, refl, ◌∙◌}
 use mathlib.Core.Bool.{Bool, true, false}
 use mathlib.Core.List.{List}
-use mathlib.Core.Logic.{◌↔◌, ◌≢◌, ◌⊎◌, inl, inr, ⊎_elim}
-use Prim.Native.Nat.{ℕ, suc, ◌+◌, ◌-◌, ◌*◌, ◌≤◌, ◌<◌, min}
+use mathlib.Core.Logic.{◌↔◌, ◌≢◌, ⊎_elim}
+use Prim.Native.Nat.{ℕ, ◌+◌, ◌-◌, ◌*◌, ◌≤◌, ◌<◌, min}
 use native.Mathlib.Omega.{arith}
 use lib.Dec.{eqb}
-use lib.ListN.{length, get_or}
+use lib.ListN.{get_or}
 use borrow.Author.Tests.{eqb-true, eqb-false}
 use Rattle.model.specs.Model.{Config, cfg, Set}
 use Rattle.model.proofs.Flags.{lt_or_ge}

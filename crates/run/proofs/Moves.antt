@@ -1,26 +1,25 @@
 -- What an event does to the words by lag is what the model does to the plausible set. Assumes nothing.
-use mathlib.Core.Path.{◌≡◌, refl, sym, ap, ◌∙◌}
+use mathlib.Core.Path.{◌≡◌, refl, sym, ◌∙◌}
 use mathlib.Core.List.{List, [], ◌∷◌, ◌++◌, append-nil}
 use mathlib.Core.Logic.{◌↔◌, ◌⊎◌, inl, inr, ⊎_elim}
-use mathlib.Core.Option.{Option, some, none}
+use mathlib.Core.Option.{some, none}
 use Prim.Native.Nat.{ℕ, zero, suc, ◌+◌, ◌-◌, ◌*◌, ◌≤◌, ◌<◌, min}
 use native.Mathlib.Nat.{mul-le-mul_right}
 use native.Mathlib.Omega.{arith}
 use lib.ListN.{length, get_or, length-append, get_or-append, get_or-eq_default}
 use lib.Seq.{get_or-append_seam}
-use Rattle.model.specs.Table.{Table, Valid, Bounded, width, byte, entry}
+use Rattle.model.specs.Table.{Table, Valid, Bounded, byte, entry}
 use Rattle.model.specs.Model.{Device, box, Event, input, output, inputs_of, newest, Place, place, placed, Config, cfg, config, Set, Step, Within, Plausible}
 use Rattle.model.specs.Model as model
-use Rattle.model.specs.Levels.{oldest, held_after, Inside, Arrived, Sent, Moved, Taken, Lost, Swept}
-use Rattle.model.specs.Demands.{Fits}
+use Rattle.model.specs.Levels.{oldest, held_after, Arrived, Sent, Moved, Taken, Lost, Swept}
 use Rattle.model.proofs.Flags.{lt_or_ge}
 use Rattle.model.proofs.Newest.{length_newest, newest_suc}
 use Rattle.model.proofs.Demands.{last_event, level_by_level, closed, contained}
 use Rattle.table.specs.Bytes.{table_of}
 use Rattle.states.specs.In.{In}
-use Rattle.states.specs.Rows.{Leads, Image}
+use Rattle.states.specs.Rows.{Leads}
 use Rattle.monitor.proofs.Entries as entries
-use Rattle.run.specs.Lag.{Lagged, Drawn, Came, Went}
+use Rattle.run.specs.Lag.{Lagged, Came, Went}
 use Rattle.run.proofs.Lags.{same_word}
 
 -- ROWS THAT ARE ALL THERE

@@ -2,17 +2,16 @@
 use mathlib.Core.Path.{◌≡◌, refl, sym, ◌∙◌, ap}
 use mathlib.Core.Bool.{Bool, true, false, not}
 use mathlib.Core.List.{List, [], ◌∷◌, ◌++◌, append-nil}
-use mathlib.Core.Logic.{◌↔◌, ◌≢◌, ◌⊎◌, inl, inr, ⊎_elim}
+use mathlib.Core.Logic.{◌↔◌, ◌≢◌, ⊎_elim}
 use mathlib.Core.Option.{Option, some, none}
-use Prim.Native.Nat.{ℕ, zero, suc, ◌+◌, ◌-◌, ◌*◌, ◌≤◌, ◌<◌, min}
+use Prim.Native.Nat.{ℕ, suc, ◌+◌, ◌-◌, ◌*◌, ◌≤◌, ◌<◌, min}
 use native.Mathlib.Omega.{arith}
 use native.Mathlib.Numerals.{add-one}
 use lib.Dec.{eqb}
 use borrow.Author.Tests.{eqb-true, eqb-false, ne_eqb}
 use lib.ListN.{length, get_or, take, set, length-set, length-take, length-append, drop, take-append-drop}
 use lib.Seq.{take-suc, take_all, take-add, take-append-le, take-length, get_or-set_same, get_or-set_other}
-use Rattle.model.specs.Table.{Table, Valid, Bounded}
-use Rattle.model.specs.Model.{Device, box, Event, input, output, event, events, inputs_of, Config, cfg, Plausible, Empty, Alive, FlagIs}
+use Rattle.model.specs.Model.{Device, box, Event, input, output, event, events, inputs_of, Config, cfg, Plausible, Empty, FlagIs}
 use Rattle.model.specs.Levels.{oldest}
 use Rattle.model.proofs.Flags.{lt_or_ge, flag_none, flag_falls}
 use Rattle.model.proofs.Bytes.{events_append, events_length}
@@ -24,11 +23,9 @@ use Rattle.table.specs.declared.answer.Test.TheVariants.{Passed}
 use Rattle.table.proofs.Laws.{given_means}
 use Rattle.states.specs.In.{In}
 use Rattle.states.proofs.Member.{not_in_zero, in_pow}
-use Rattle.session.specs.declared.Flag.{Flag}
 use Rattle.session.specs.declared.Flag.TheVariants as flag
 use Rattle.session.specs.Open.{zeros, opening}
 use Rattle.session.proofs.Padded.{length_zeros, zeros_at}
-use Rattle.session.specs.Session.{place_of}
 use Rattle.session.proofs.Laws.{opening_passes}
 use Rattle.run.specs.declared.trace.Place.{Place}
 use Rattle.run.specs.Run.{Line, At, RunTo, Followed}

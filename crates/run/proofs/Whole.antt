@@ -2,26 +2,23 @@
 use mathlib.Core.Path.{◌≡◌, refl, sym, ◌∙◌, ap}
 use mathlib.Core.List.{List, [], ◌∷◌, ◌++◌}
 use mathlib.Core.Logic.{◌↔◌, ◌⊎◌, inl, inr, ⊎_elim}
-use mathlib.Core.Option.{Option, some, none}
-use Prim.Native.Nat.{ℕ, zero, suc, ◌+◌, ◌-◌, ◌*◌, ◌/◌, ◌%◌, ◌≤◌, ◌<◌}
+use Prim.Native.Nat.{ℕ, suc, ◌+◌, ◌*◌, ◌/◌, ◌%◌, ◌<◌}
 use native.Mathlib.Omega.{arith}
 use lib.ListN.{length, get_or, take}
 use lib.Seq.{ext_get_or}
-use Rattle.model.specs.Model.{box, events, Config, Set, Plausible, FlagIs}
+use Rattle.model.specs.Model.{box, events, Config, Set, Plausible}
 use Rattle.model.proofs.Flags.{lt_or_ge}
 use Rattle.model.proofs.Demands.{one_flag}
 use Rattle.table.specs.Bytes.{table_of}
 use Rattle.table.specs.declared.answer.Refusal.{Refusal}
 use Rattle.table.specs.declared.answer.Test.TheVariants.{Passed, Refused}
-use Rattle.states.specs.In.{In}
 use Rattle.states.proofs.Same.{in_ext, zero_none, zero_or_some}
 use Rattle.session.specs.declared.Flag.{Flag}
 use Rattle.session.specs.declared.Flag.TheVariants as flag
-use Rattle.run.specs.declared.Ran.{Ran}
 use Rattle.session.specs.Sets.{Holds}
 use Rattle.session.specs.Session.{place_of}
-use Rattle.run.specs.Run.{Lowest, Highest, StateOf, WaitingOf, RunOf, number, Line, At, run_test, RunTo, Runs, refused, ran}
-use Rattle.run.specs.Laws.{OneLine, OneRun, Agree, RunsAsFed}
+use Rattle.run.specs.Run.{Lowest, Highest, WaitingOf, RunOf, number, Line, RunTo, refused, ran}
+use Rattle.run.specs.Laws.{OneLine, OneRun, RunsAsFed}
 use Rattle.monitor.proofs.Laws.{plausible_after_feeding}
 
 -- ONE LINE

@@ -1,6 +1,6 @@
 -- A column of a table as five words: a mask and the distance that its states move on by, modulo 64; a second mask and its distance; and the
 -- rest of the states that the column allows. Assumes nothing.
-use Rattle.std.specs.Prelude.{◌≡◌, List, ◌⊎◌, ℕ, ◌+◌, ◌*◌, ◌%◌, ◌≤◌, ◌<◌, length, get_or}
+use Rattle.std.specs.Prelude.{◌≡◌, List, ◌⊎◌, ℕ, ◌+◌, ◌*◌, ◌%◌, ◌<◌, length, get_or}
 use Rattle.states.specs.In.{In, Has}
 use Rattle.states.specs.Rows.{byte_at}
 

@@ -1,12 +1,11 @@
 -- What is shown of whole runs, each under one sentence. proofs/Laws.antt proves them all. Assumes nothing.
-use Rattle.std.specs.Prelude.{◌≡◌, true, false, List, [], ◌++◌, ◌↔◌, ℕ, suc, ◌+◌, ◌*◌, ◌^◌, ◌≤◌, ◌<◌, length, get_or, take as first}
+use Rattle.std.specs.Prelude.{◌≡◌, List, [], ◌++◌, ◌↔◌, ℕ, suc, ◌+◌, ◌*◌, ◌^◌, ◌≤◌, ◌<◌, length, get_or, take as first}
 use Rattle.model.specs.Limits.{most_events}
-use Rattle.model.specs.Model.{box, events, Config, Set, Plausible, Empty}
+use Rattle.model.specs.Model.{box, events, Set, Plausible, Empty}
 use Rattle.model.specs.Demands.{Slack, Later}
 use Rattle.table.specs.Bytes.{table_of, symbol_of}
 use Rattle.table.specs.declared.answer.Symbol.TheVariants.{Invalid}
-use Rattle.table.specs.declared.answer.Refusal.TheVariants.{Event}
-use Rattle.table.specs.declared.answer.Test.TheVariants.{Passed, Refused}
+use Rattle.table.specs.declared.answer.Test.TheVariants.{Passed}
 use Rattle.states.specs.In.{In}
 use Rattle.session.specs.declared.Session.{Session}
 use Rattle.session.specs.declared.Flag.{Flag}

@@ -1,9 +1,8 @@
 use Rattle.run.proofs.Passing.{run_passes}
 use Rattle.session.proofs.Openings.{small_opening, opening_passes}
 use Rattle.run.specs.Run.{refused, ran}
-use mathlib.Core.Path.{◌≡◌, refl, sym, ◌∙◌, ap}
+use mathlib.Core.Path.{sym, ◌∙◌}
 use native.Mathlib.Omega.{arith}
-use borrow.Author.Rules.{rules}
 use Rattle.run.proofs.run.Goals as goal
 
 pub overflow_cast-inputs : goal.overflow_cast-inputs

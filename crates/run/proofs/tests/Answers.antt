@@ -1,8 +1,7 @@
 use Rattle.session.proofs.Openings.{small_opening}
 use Rattle.run.specs.Run.{run_test}
-use mathlib.Core.Path.{◌≡◌, refl, sym, ◌∙◌, ap}
+use mathlib.Core.Path.{sym, ◌∙◌}
 use native.Mathlib.Omega.{arith}
-use borrow.Author.Rules.{rules}
 use Rattle.run.proofs.tests.Goals as goal
 
 pub overflow_cast-inputs : goal.overflow_cast-inputs

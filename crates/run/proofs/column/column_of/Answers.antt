@@ -1,12 +1,9 @@
-use mathlib.Core.Path.{◌≡◌, refl, sym, ◌∙◌, ap}
-use Prim.Native.Nat.{ℕ, ◌+◌, ◌-◌, ◌*◌, ◌≤◌, ◌<◌, min}
+use mathlib.Core.Path.{◌≡◌, sym}
 use Rattle.run.proofs.Columns.{sorted_none}
-use Rattle.run.specs.Column.{Sorted}
 use Rattle.states.specs.Rows.{byte_at}
 use Rattle.session.specs.Open.{zeros}
 use Rattle.session.proofs.Padded.{length_zeros, zeros_at}
 use native.Mathlib.Omega.{arith}
-use borrow.Author.Rules.{rules}
 use Rattle.run.proofs.column.column_of.Goals as goal
 
 pub loop-s-init : goal.loop-s-init

@@ -1,7 +1,5 @@
 use mathlib.Core.Logic.{inl, inr}
 use borrow.Author.Tests.{eqb-true}
-use native.Mathlib.Omega.{arith}
-use borrow.Author.Rules.{rules}
 use Rattle.run.proofs.column.fits.Goals as goal
 
 pub returns-then-mask-eq0 : goal.returns-then-mask-eq0

@@ -1,7 +1,5 @@
-use mathlib.Core.Path.{◌≡◌, refl, sym, ◌∙◌, ap}
 use Rattle.run.proofs.Columns.{ready_near, ready_far, ready_rest, image_all, image_turned}
 use native.Mathlib.Omega.{arith}
-use borrow.Author.Rules.{rules}
 use Rattle.run.proofs.column.image.Goals as goal
 
 pub turned-near-requires : goal.turned-near-requires

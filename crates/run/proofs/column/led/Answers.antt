@@ -1,16 +1,13 @@
-use Prim.Native.Nat.{ℕ, ◌+◌, ◌-◌, ◌*◌, ◌^◌, ◌≤◌, ◌<◌, min}
-use mathlib.Core.Path.{◌≡◌, refl, sym, ◌∙◌, ap}
+use Prim.Native.Nat.{◌-◌, ◌*◌, ◌≤◌, ◌<◌}
+use mathlib.Core.Path.{refl}
 use Rattle.run.proofs.Columns.{led_row, led_byte, led_within, led_more}
 use mathlib.Core.Logic.Iff
 use native.Mathlib.Nat.{mul-le-mul}
 use lib.Bits.{and_le_r}
-use Rattle.states.specs.In.{In}
-use Rattle.states.specs.Rows.{Leads}
 use Rattle.states.proofs.Member.{in_lt}
 use Rattle.states.proofs.Ends.{least_in}
-use Rattle.states.proofs.Through.{Going, going_none, going_all, via_image}
+use Rattle.states.proofs.Through.{going_none, going_all, via_image}
 use native.Mathlib.Omega.{arith}
-use borrow.Author.Rules.{rules}
 use Rattle.run.proofs.column.led.Goals as goal
 
 pub loop-left-init : goal.loop-left-init

@@ -1,16 +1,7 @@
-use Prim.Native.Nat.{ℕ, ◌+◌, ◌-◌, ◌*◌, ◌^◌, ◌≤◌, ◌<◌, min}
-use mathlib.Core.Path.{◌≡◌, refl, sym, ◌∙◌, ap}
-use Rattle.run.proofs.Columns.{led_row, led_byte, led_within, led_more}
-use mathlib.Core.Logic.Iff
-use native.Mathlib.Nat.{mul-le-mul}
-use lib.Bits.{and_le_r}
+use Prim.Native.Nat.{ℕ, ◌^◌, ◌<◌}
 use Rattle.states.specs.In.{In}
 use Rattle.states.specs.Rows.{Leads}
-use Rattle.states.proofs.Member.{in_lt}
-use Rattle.states.proofs.Ends.{least_in}
-use Rattle.states.proofs.Through.{Going, going_none, going_all, via_image}
-use native.Mathlib.Omega.{arith}
-use borrow.Author.Rules.{rules}
+use Rattle.states.proofs.Through.{Going}
 use Rattle.run.proofs.column.led.Given as goal
 
 abbrev pub invariant-loop-left : goal.invariant-loop-left

@@ -1,9 +1,6 @@
-use mathlib.Core.Path.{◌≡◌, refl, sym, ◌∙◌, ap}
-use Prim.Native.Nat.{ℕ, ◌+◌, ◌-◌, ◌*◌, ◌≤◌, ◌<◌, min}
-use lib.ListN.{length, get_or}
-use Rattle.states.proofs.Words.{Written, written_none, written_more}
+use mathlib.Core.Path.{◌≡◌, refl}
+use Rattle.states.proofs.Words.{written_none, written_more}
 use native.Mathlib.Omega.{arith}
-use borrow.Author.Rules.{rules}
 use Rattle.run.proofs.column.put.Goals as goal
 
 pub loop-i-init : goal.loop-i-init

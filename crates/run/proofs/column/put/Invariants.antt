@@ -1,9 +1,7 @@
-use mathlib.Core.Path.{◌≡◌, refl, sym, ◌∙◌, ap}
-use Prim.Native.Nat.{ℕ, ◌+◌, ◌-◌, ◌*◌, ◌≤◌, ◌<◌, min}
+use mathlib.Core.Path.{◌≡◌}
+use Prim.Native.Nat.{◌-◌, ◌*◌, ◌≤◌}
 use lib.ListN.{length, get_or}
-use Rattle.states.proofs.Words.{Written, written_none, written_more}
-use native.Mathlib.Omega.{arith}
-use borrow.Author.Rules.{rules}
+use Rattle.states.proofs.Words.{Written}
 use Rattle.run.proofs.column.put.Given as goal
 
 abbrev pub invariant-loop-i : goal.invariant-loop-i

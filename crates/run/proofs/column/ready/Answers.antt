@@ -1,9 +1,6 @@
-use mathlib.Core.Path.{◌≡◌, refl, sym, ◌∙◌, ap}
-use Prim.Native.Nat.{ℕ, ◌+◌, ◌-◌, ◌*◌, ◌≤◌, ◌<◌, min}
+use mathlib.Core.Path.{◌≡◌}
 use Rattle.run.proofs.Columns.{ready_none, ready_more}
-use Rattle.run.specs.Column.{Ready}
 use native.Mathlib.Omega.{arith}
-use borrow.Author.Rules.{rules}
 use Rattle.run.proofs.column.ready.Goals as goal
 
 pub loop-k-init : goal.loop-k-init

@@ -1,9 +1,5 @@
-use mathlib.Core.Path.{◌≡◌, refl, sym, ◌∙◌, ap}
-use Prim.Native.Nat.{ℕ, ◌+◌, ◌-◌, ◌*◌, ◌≤◌, ◌<◌, min}
-use Rattle.run.proofs.Columns.{ready_none, ready_more}
+use Prim.Native.Nat.{◌-◌, ◌≤◌}
 use Rattle.run.specs.Column.{Ready}
-use native.Mathlib.Omega.{arith}
-use borrow.Author.Rules.{rules}
 use Rattle.run.proofs.column.ready.Given as goal
 
 abbrev pub invariant-loop-k : goal.invariant-loop-k

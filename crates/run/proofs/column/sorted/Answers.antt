@@ -1,7 +1,5 @@
-use mathlib.Core.Path.{◌≡◌, refl, sym, ◌∙◌, ap}
+use mathlib.Core.Path.{sym, ◌∙◌}
 use Rattle.run.proofs.Columns.{sorted_skip, sorted_near, sorted_far, sorted_rest}
-use native.Mathlib.Omega.{arith}
-use borrow.Author.Rules.{rules}
 use Rattle.run.proofs.column.sorted.Goals as goal
 
 pub returns-then-t-ge64 : goal.returns-then-t-ge64

@@ -1,6 +1,5 @@
 use Rattle.run.proofs.Columns.{turned_none, turned_is}
 use native.Mathlib.Omega.{arith}
-use borrow.Author.Rules.{rules}
 use Rattle.run.proofs.column.turned.Goals as goal
 
 pub returns-then-d-eq0 : goal.returns-then-d-eq0

@@ -1,6 +1,5 @@
 use Rattle.run.proofs.Lags.{came_in}
 use native.Mathlib.Omega.{arith}
-use borrow.Author.Rules.{rules}
 use Rattle.run.proofs.lag.arrived.Goals as goal
 
 pub overflow_sub-here : goal.overflow_sub-here

@@ -1,6 +1,5 @@
 use Rattle.run.proofs.Lags.{based_here, based_up}
 use native.Mathlib.Omega.{arith}
-use borrow.Author.Rules.{rules}
 use Rattle.run.proofs.lag.based.Goals as goal
 
 pub returns-then-base-gt0 : goal.returns-then-base-gt0

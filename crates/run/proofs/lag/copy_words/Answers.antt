@@ -1,11 +1,7 @@
-use Rattle.states.proofs.Words.{Written, written_none, written_more}
+use Rattle.states.proofs.Words.{written_none, written_more}
 use Rattle.run.proofs.Lags.{copied}
-use Rattle.run.specs.Lag.{Copied}
-use Prim.Native.Nat.{ℕ, ◌+◌, ◌-◌, ◌≤◌, ◌<◌, min}
-use mathlib.Core.Path.{◌≡◌, refl, sym, ◌∙◌, ap}
-use lib.ListN.{length, get_or}
+use mathlib.Core.Path.{◌≡◌, refl}
 use native.Mathlib.Omega.{arith}
-use borrow.Author.Rules.{rules}
 use Rattle.run.proofs.lag.copy_words.Goals as goal
 
 pub loop-k-init : goal.loop-k-init

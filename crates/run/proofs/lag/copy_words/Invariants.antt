@@ -1,11 +1,7 @@
-use Rattle.states.proofs.Words.{Written, written_none, written_more}
-use Rattle.run.proofs.Lags.{copied}
-use Rattle.run.specs.Lag.{Copied}
-use Prim.Native.Nat.{ℕ, ◌+◌, ◌-◌, ◌≤◌, ◌<◌, min}
-use mathlib.Core.Path.{◌≡◌, refl, sym, ◌∙◌, ap}
+use Rattle.states.proofs.Words.{Written}
+use Prim.Native.Nat.{◌-◌, ◌≤◌}
+use mathlib.Core.Path.{◌≡◌}
 use lib.ListN.{length, get_or}
-use native.Mathlib.Omega.{arith}
-use borrow.Author.Rules.{rules}
 use Rattle.run.proofs.lag.copy_words.Given as goal
 
 abbrev pub invariant-loop-k : goal.invariant-loop-k

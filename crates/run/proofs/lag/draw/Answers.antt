@@ -1,10 +1,7 @@
 use Rattle.run.proofs.Lags.{draws_none, draws_more}
-use Rattle.run.specs.Lag.{DrawnFrom}
-use Prim.Native.Nat.{ℕ, ◌+◌, ◌-◌, ◌*◌, ◌≤◌, ◌<◌, min}
-use mathlib.Core.Path.{◌≡◌, refl, sym, ◌∙◌, ap}
-use lib.ListN.{length, get_or}
+use Prim.Native.Nat.{◌+◌, ◌-◌}
+use mathlib.Core.Path.{◌≡◌}
 use native.Mathlib.Omega.{arith}
-use borrow.Author.Rules.{rules}
 use Rattle.run.proofs.lag.draw.Goals as goal
 
 pub loop-w-init : goal.loop-w-init

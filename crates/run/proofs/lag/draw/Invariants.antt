@@ -1,10 +1,7 @@
-use Rattle.run.proofs.Lags.{draws_none, draws_more}
 use Rattle.run.specs.Lag.{DrawnFrom}
-use Prim.Native.Nat.{ℕ, ◌+◌, ◌-◌, ◌*◌, ◌≤◌, ◌<◌, min}
-use mathlib.Core.Path.{◌≡◌, refl, sym, ◌∙◌, ap}
-use lib.ListN.{length, get_or}
-use native.Mathlib.Omega.{arith}
-use borrow.Author.Rules.{rules}
+use Prim.Native.Nat.{◌≤◌}
+use mathlib.Core.Path.{◌≡◌}
+use lib.ListN.{length}
 use Rattle.run.proofs.lag.draw.Given as goal
 
 abbrev pub invariant-loop-w : goal.invariant-loop-w

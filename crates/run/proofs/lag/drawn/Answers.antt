@@ -1,6 +1,4 @@
 use Rattle.run.proofs.Lags.{drawn_image}
-use native.Mathlib.Omega.{arith}
-use borrow.Author.Rules.{rules}
 use Rattle.run.proofs.lag.drawn.Goals as goal
 
 pub returns : goal.returns

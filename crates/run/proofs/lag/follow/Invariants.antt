@@ -1,10 +1,7 @@
-use Rattle.run.proofs.Lags.{followed_none, followed_more}
 use Rattle.run.specs.Lag.{FollowedFrom}
-use Prim.Native.Nat.{ℕ, ◌+◌, ◌-◌, ◌*◌, ◌≤◌, ◌<◌, min}
-use mathlib.Core.Path.{◌≡◌, refl, sym, ◌∙◌, ap}
-use lib.ListN.{length, get_or}
-use native.Mathlib.Omega.{arith}
-use borrow.Author.Rules.{rules}
+use Prim.Native.Nat.{◌≤◌}
+use mathlib.Core.Path.{◌≡◌}
+use lib.ListN.{length}
 use Rattle.run.proofs.lag.follow.Given as goal
 
 abbrev pub invariant-loop-j : goal.invariant-loop-j

@@ -1,6 +1,4 @@
 use Rattle.run.proofs.Lags.{kept_below, kept_past}
-use native.Mathlib.Omega.{arith}
-use borrow.Author.Rules.{rules}
 use Rattle.run.proofs.lag.kept.Goals as goal
 
 pub returns-then-lost-c : goal.returns-then-lost-c

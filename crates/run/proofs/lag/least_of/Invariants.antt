@@ -1,9 +1,5 @@
-use borrow.Author.Tests.{eqb-true, eqb-false}
-use Rattle.run.proofs.Lags.{NoneBelow, none_more, least_at}
-use Prim.Native.Nat.{ℕ, ◌+◌, ◌-◌, ◌≤◌, ◌<◌, min}
-use mathlib.Core.Path.{◌≡◌, refl, sym, ◌∙◌, ap}
-use native.Mathlib.Omega.{arith}
-use borrow.Author.Rules.{rules}
+use Rattle.run.proofs.Lags.{NoneBelow}
+use Prim.Native.Nat.{◌-◌, ◌≤◌}
 use Rattle.run.proofs.lag.least_of.Given as goal
 
 abbrev pub invariant-loop-j : goal.invariant-loop-j

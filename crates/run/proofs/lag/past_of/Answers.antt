@@ -1,8 +1,5 @@
-use Rattle.run.proofs.Lags.{NoneFrom, none_back, past_at}
-use Prim.Native.Nat.{ℕ, ◌+◌, ◌-◌, ◌≤◌, ◌<◌, min}
-use mathlib.Core.Path.{◌≡◌, refl, sym, ◌∙◌, ap}
+use Rattle.run.proofs.Lags.{none_back, past_at}
 use native.Mathlib.Omega.{arith}
-use borrow.Author.Rules.{rules}
 use Rattle.run.proofs.lag.past_of.Goals as goal
 
 pub loop-j-init : goal.loop-j-init

@@ -1,11 +1,6 @@
 use Rattle.run.proofs.Lags.{all_none, all_more}
-use Rattle.run.specs.Lag.{Within}
-use Rattle.states.specs.In.{In}
-use mathlib.Core.Logic.{◌↔◌}
-use Prim.Native.Nat.{ℕ, ◌+◌, ◌-◌, ◌≤◌, ◌<◌, min}
-use mathlib.Core.Path.{◌≡◌, refl, sym, ◌∙◌, ap}
+use mathlib.Core.Path.{◌≡◌}
 use native.Mathlib.Omega.{arith}
-use borrow.Author.Rules.{rules}
 use Rattle.run.proofs.lag.states_of.Goals as goal
 
 pub loop-j-init : goal.loop-j-init

@@ -1,11 +1,7 @@
-use Rattle.run.proofs.Lags.{all_none, all_more}
 use Rattle.run.specs.Lag.{Within}
 use Rattle.states.specs.In.{In}
 use mathlib.Core.Logic.{◌↔◌}
-use Prim.Native.Nat.{ℕ, ◌+◌, ◌-◌, ◌≤◌, ◌<◌, min}
-use mathlib.Core.Path.{◌≡◌, refl, sym, ◌∙◌, ap}
-use native.Mathlib.Omega.{arith}
-use borrow.Author.Rules.{rules}
+use Prim.Native.Nat.{ℕ, ◌-◌, ◌≤◌}
 use Rattle.run.proofs.lag.states_of.Given as goal
 
 abbrev pub invariant-loop-j : goal.invariant-loop-j

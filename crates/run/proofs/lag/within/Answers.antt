@@ -1,11 +1,7 @@
 use Rattle.run.proofs.Lags.{within_none, within_more}
-use Rattle.run.specs.Lag.{Within}
-use Rattle.states.specs.In.{In}
-use mathlib.Core.Logic.{◌↔◌}
-use Prim.Native.Nat.{ℕ, ◌+◌, ◌-◌, ◌≤◌, ◌<◌, min}
-use mathlib.Core.Path.{◌≡◌, refl, sym, ◌∙◌, ap}
+use Prim.Native.Nat.{min}
+use mathlib.Core.Path.{◌≡◌}
 use native.Mathlib.Omega.{arith}
-use borrow.Author.Rules.{rules}
 use Rattle.run.proofs.lag.within.Goals as goal
 
 pub loop-lost-init : goal.loop-lost-init

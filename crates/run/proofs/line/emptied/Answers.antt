@@ -1,11 +1,6 @@
-use mathlib.Core.Path.{◌≡◌, refl, sym, ◌∙◌, ap}
-use Prim.Native.Nat.{ℕ, ◌+◌, ◌-◌, ◌*◌, ◌≤◌, ◌<◌, min}
-use lib.ListN.{length}
-use Rattle.model.specs.Limits.{most_events}
-use Rattle.run.specs.Trace.{Emptied}
+use mathlib.Core.Path.{◌≡◌}
 use Rattle.run.proofs.Lines.{emptied_none, emptied_more}
 use native.Mathlib.Omega.{arith}
-use borrow.Author.Rules.{rules}
 use Rattle.run.proofs.line.emptied.Goals as goal
 
 pub loop-i-init : goal.loop-i-init

@@ -1,11 +1,7 @@
-use mathlib.Core.Path.{◌≡◌, refl, sym, ◌∙◌, ap}
-use Prim.Native.Nat.{ℕ, ◌+◌, ◌-◌, ◌*◌, ◌≤◌, ◌<◌, min}
+use Prim.Native.Nat.{◌-◌, ◌*◌, ◌≤◌}
 use lib.ListN.{length}
 use Rattle.model.specs.Limits.{most_events}
 use Rattle.run.specs.Trace.{Emptied}
-use Rattle.run.proofs.Lines.{emptied_none, emptied_more}
-use native.Mathlib.Omega.{arith}
-use borrow.Author.Rules.{rules}
 use Rattle.run.proofs.line.emptied.Given as goal
 
 abbrev pub invariant-loop-i : goal.invariant-loop-i

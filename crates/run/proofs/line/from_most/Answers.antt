@@ -1,6 +1,4 @@
-use mathlib.Core.Path.{◌≡◌, refl, sym, ◌∙◌, ap}
 use native.Mathlib.Omega.{arith}
-use borrow.Author.Rules.{rules}
 use Rattle.run.proofs.line.from_most.Goals as goal
 
 pub returns-then-none : goal.returns-then-none

@@ -1,9 +1,6 @@
-use Rattle.states.proofs.Words.{Written, written_none, written_more}
-use lib.ListN.{length, get_or}
-use Prim.Native.Nat.{ℕ, ◌+◌, ◌-◌, ◌*◌, ◌/◌, ◌%◌, ◌≤◌, ◌<◌}
-use mathlib.Core.Path.{◌≡◌, refl, sym, ◌∙◌, ap}
+use Rattle.states.proofs.Words.{written_none, written_more}
+use mathlib.Core.Path.{◌≡◌, refl}
 use native.Mathlib.Omega.{arith}
-use borrow.Author.Rules.{rules}
 use Rattle.run.proofs.line.put.Goals as goal
 
 pub loop-i-init : goal.loop-i-init

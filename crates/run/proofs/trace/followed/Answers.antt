@@ -1,11 +1,10 @@
-use mathlib.Core.Path.{◌≡◌, refl, sym, ◌∙◌, ap}
-use Prim.Native.Nat.{ℕ, ◌+◌, ◌-◌, ◌*◌, ◌≤◌, ◌<◌, min}
+use mathlib.Core.Path.{refl, ◌∙◌}
+use Prim.Native.Nat.{◌≤◌, ◌<◌}
 use lib.ListN.{length}
-use Rattle.run.proofs.Running.{Following, following_none, following_more, stepped_room, run_end, run_flagged}
+use Rattle.run.proofs.Running.{following_none, following_more, stepped_room, run_end, run_flagged}
 use Rattle.session.specs.Open.{zeros}
 use Rattle.session.proofs.Padded.{length_zeros}
 use native.Mathlib.Omega.{arith}
-use borrow.Author.Rules.{rules}
 use Rattle.run.proofs.trace.followed.Goals as goal
 use Rattle.run.proofs.trace.followed.Goals.{then-loop-past-test+else-k-trace, else-loop-past-test}
 

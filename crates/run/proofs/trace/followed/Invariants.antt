@@ -1,13 +1,6 @@
-use mathlib.Core.Path.{◌≡◌, refl, sym, ◌∙◌, ap}
-use Prim.Native.Nat.{ℕ, ◌+◌, ◌-◌, ◌*◌, ◌≤◌, ◌<◌, min}
+use Prim.Native.Nat.{◌-◌}
 use lib.ListN.{length}
-use mathlib.Core.Logic.{⊎_elim}
-use borrow.Author.Tests.{ltb-true, ltb-false}
-use Rattle.run.proofs.Running.{Following, following_none, following_more, stepped_room, run_end, run_flagged}
-use Rattle.session.specs.Open.{zeros}
-use Rattle.session.proofs.Padded.{length_zeros}
-use native.Mathlib.Omega.{arith}
-use borrow.Author.Rules.{rules}
+use Rattle.run.proofs.Running.{Following}
 use Rattle.run.proofs.trace.followed.Given as goal
 
 abbrev pub invariant-loop-past : goal.invariant-loop-past

@@ -1,8 +1,7 @@
-use mathlib.Core.Path.{◌≡◌, refl, sym, ◌∙◌, ap}
+use mathlib.Core.Path.{sym, ◌∙◌}
 use Rattle.run.specs.Trace.{came, went}
 use Rattle.table.proofs.Laws.{given_means}
 use native.Mathlib.Omega.{arith}
-use borrow.Author.Rules.{rules}
 use Rattle.run.proofs.trace.step.Goals as goal
 
 pub arrived-base-requires : goal.arrived-base-requires
