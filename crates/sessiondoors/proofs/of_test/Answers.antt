@@ -1,5 +1,4 @@
 -- `of_test` meets its contract. Assumes nothing.
-use borrow.Author.Rules.{rules}
 use Rattle.sessiondoors.proofs.of_test.Goals as goal
 
 pub returns : goal.returns

@@ -7,7 +7,6 @@ use Rattle.sessiondoors.proofs.Flags.{fed_small}
 use Rattle.sessiondoors.proofs.Answers.{room, feeds_by}
 use Rattle.table.proofs.Checks.{passed, failed}
 use Rattle.sessiondoors.specs.Doors as doors
-use borrow.Author.Rules.{rules}
 use Rattle.sessiondoors.proofs.rillmoth_feed.Goals as goal
 
 pub returns-then-not-roomy : goal.returns-then-not-roomy

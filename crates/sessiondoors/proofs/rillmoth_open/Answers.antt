@@ -3,7 +3,6 @@ use Rattle.sessiondoors.proofs.Flags.{opened_small}
 use Rattle.sessiondoors.proofs.Answers.{room, opens_by, refuses_by}
 use Rattle.table.proofs.Checks.{passed, failed}
 use Rattle.sessiondoors.specs.Doors as doors
-use borrow.Author.Rules.{rules}
 use Rattle.sessiondoors.proofs.rillmoth_open.Goals as goal
 
 pub returns-then-not-roomy : goal.returns-then-not-roomy

@@ -1,9 +1,5 @@
-use mathlib.Core.Path.{refl}
-use Prim.Native.Nat.{ℕ, ◌-◌}
-use native.Mathlib.Omega.{arith}
-use lib.ListN.{length-replicate}
-use borrow.Author.Rules.{rules}
-use Rattle.sessiondoors.proofs.Copies.{Copied, copied_more, copied_all}
+use Prim.Native.Nat.{◌-◌}
+use Rattle.sessiondoors.proofs.Copies.{Copied}
 use Rattle.sessiondoors.proofs.layout.rows_in.Given as goal
 
 abbrev pub invariant-loop-i : goal.invariant-loop-i

@@ -1,7 +1,6 @@
 -- `layout::session_in` meets its contract. Assumes nothing.
 use Rattle.sessiondoors.proofs.Layouts.{held_part}
 use Rattle.sessiondoors.specs.Layout.{session_in}
-use borrow.Author.Rules.{rules}
 use Rattle.sessiondoors.proofs.layout.session_in.Goals as goal
 
 pub returns : goal.returns

@@ -1,10 +1,9 @@
 -- `layout::set_in` meets its contract. Assumes nothing.
 use mathlib.Core.Path.{refl}
-use Prim.Native.Nat.{ℕ, ◌-◌}
+use Prim.Native.Nat.{ℕ}
 use native.Mathlib.Omega.{arith}
 use lib.ListN.{length-replicate}
-use borrow.Author.Rules.{rules}
-use Rattle.sessiondoors.proofs.Copies.{Copied, copied_more, copied_all}
+use Rattle.sessiondoors.proofs.Copies.{copied_more, copied_all}
 use Rattle.sessiondoors.proofs.layout.set_in.Goals as goal
 
 pub loop-i-init : goal.loop-i-init
