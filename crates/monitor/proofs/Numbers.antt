@@ -1,7 +1,7 @@
 -- Which number a feed tells, and when: the law of specs/Numbers.antt. Assumes nothing.
 use mathlib.Core.Path.{◌≡◌}
 use mathlib.Core.List.Memᴰ.{head as at_head}
-use mathlib.Core.List.Memᴰ.{tail as in_Tail}
+use mathlib.Core.List.Memᴰ.{tail as in_tail}
 use mathlib.Core.Logic.{◌↔◌}
 use Prim.Native.Nat.{ℕ, ◌+◌}
 use native.Mathlib.Omega.{arith}
@@ -49,7 +49,7 @@ feeding_tells s b r (full so l) =
             λ (x, f, (e, d)). told_alone (events_give (s.events + 1)) (omega arith, d),
           );
       invalid = λ p q. neither (no_other 7 (events_give (s.events + 1)) (λ e. omega arith)) (λ (x, m, f, a). omega arith);
-      among = λ n p q t. in_Tail (at_head (alone (events_give (s.events + 1)) t).0);
+      among = λ n p q t. in_tail (at_head (alone (events_give (s.events + 1)) t).0);
     }
 feeding_tells s b r (invalid so l e) =
     record {
@@ -59,7 +59,7 @@ feeding_tells s b r (invalid so l e) =
         λ t. (so, l, (not_valid s b so).0 e, (alone (event_gives s.events) t).1),
         λ (x, m, f, a). told_alone (event_gives s.events) a,
       );
-      among = λ n p q t. in_Tail (in_Tail (at_head (alone (event_gives s.events) t).0));
+      among = λ n p q t. in_tail (in_tail (at_head (alone (event_gives s.events) t).0));
     }
 feeding_tells s b r (fed so l v x) =
     record {

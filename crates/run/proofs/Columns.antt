@@ -17,7 +17,7 @@ use Rattle.states.specs.Rows.{byte_at, Leads, Image}
 use Rattle.states.proofs.Member.{not_in_zero, in_lt, in_or, in_or_with, in_and, in_shr, in_one}
 use Rattle.states.proofs.Ends.{least_in, without_least}
 use Rattle.states.proofs.Through.{Going, going_more}
-use Rattle.states.proofs.Words.{getD_within}
+use Rattle.states.proofs.Words.{get_or_within}
 use Rattle.states.proofs.Same.{zero_none}
 use Rattle.run.specs.Column.{Turned, Moves, SortedBy, Sorted, Put5, Ready}
 
@@ -308,7 +308,7 @@ module _ (rows : List ℕ) (width column from left s : ℕ) (some : left ≡ 0 �
   led_row = row_there rows width column s led_state
 
   pub led_byte : get_or rows (s * width + column) 0 < 64
-  led_byte = rw (getD_within rows (s * width + column) 0 255 led_row) led_state
+  led_byte = rw (get_or_within rows (s * width + column) 0 255 led_row) led_state
 
   pub led_within : (q : ℕ) → In q (bit_and left (left - 1)) → In q from
   led_within q i = within q ((without_least left s some least q).0 i).0
@@ -319,6 +319,6 @@ module _ (rows : List ℕ) (width column from left s : ℕ) (some : left ≡ 0 �
       going_more (Leads rows width column) from s (bit_or out (1 * 2 ^ get_or rows (s * width + column) 0 % 2 ^ 64)) some least
       (in_or_with (Leads rows width column s) out (1 * 2 ^ get_or rows (s * width + column) 0 % 2 ^ 64) (λ q. (
         (λ i. let e : q ≡ get_or rows (s * width + column) 0 = (in_one q (get_or rows (s * width + column) 0) led_byte).0 i in
-            record { byte = sym (e ∙ getD_within rows (s * width + column) 0 255 led_row); state = rw e led_byte }),
-        (λ k. (in_one q (get_or rows (s * width + column) 0) led_byte).1 (sym (getD_within rows (s * width + column) 0 255 led_row ∙ k.byte))),
+            record { byte = sym (e ∙ get_or_within rows (s * width + column) 0 255 led_row); state = rw e led_byte }),
+        (λ k. (in_one q (get_or rows (s * width + column) 0) led_byte).1 (sym (get_or_within rows (s * width + column) 0 255 led_row ∙ k.byte))),
       ))) g

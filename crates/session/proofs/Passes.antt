@@ -26,7 +26,7 @@ use Rattle.states.specs.In.{Has}
 use Rattle.states.proofs.Answers.{left}
 use Rattle.states.proofs.Member.{in_or, not_in_zero}
 use Rattle.states.proofs.Same.{none_in, zero_none}
-use Rattle.states.proofs.Words.{getD_within}
+use Rattle.states.proofs.Words.{get_or_within}
 use Rattle.session.specs.Sets.{InCell}
 use Rattle.session.specs.Session.{ZeroFrom, CellFits, SetFits, TableSound}
 use Rattle.session.proofs.Clauses.{both_decide, le_decides}
@@ -132,7 +132,7 @@ module _ (rows : List ℕ) (s i o : ℕ) (len : length rows ≡ 2048) (counts : 
   here q k l m =
       rw (
         get_or-take (s * (i + o)) rows (q * (i + o) + k) 255 (inside q k l m),
-        getD_within rows (q * (i + o) + k) 255 0 (omega (arith, inside q k l m, small, len)),
+        get_or_within rows (q * (i + o) + k) 255 0 (omega (arith, inside q k l m, small, len)),
       )
 
   right_entries : ((j : ℕ) → j < s * (i + o) → LeadsBelow s rows j) → (q k q' : ℕ) → q < s → k < i + o

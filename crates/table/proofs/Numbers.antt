@@ -4,7 +4,7 @@ use mathlib.Core.Bool.{Bool, true, false, cond}
 use mathlib.Core.List.Memᴰ.{cases_cons}
 use mathlib.Core.List.Memᴰ.{head as at_head}
 use mathlib.Core.List.Memᴰ.{not-nil}
-use mathlib.Core.List.Memᴰ.{tail as in_Tail}
+use mathlib.Core.List.Memᴰ.{tail as in_tail}
 use mathlib.Core.List.{List, [], ◌∷◌, Memᴰ as In}
 use mathlib.Core.Logic.{◌↔◌, ◌⊎◌, inl, inr, ⊎_elim}
 use mathlib.Core.Option.{Option, some, none}
@@ -165,7 +165,7 @@ module _ {b : Bool} {P : Type 0} (holds : b ≡ true ↔ P) {r : Refusal} {k x :
   )
 
   pub must_among : {ms : List ℕ} → Among ms t → Among (k ∷ ms) (must b r t)
-  must_among a n p q m = ⊎_elim (λ (e, y). at_head (alone gives y).0) (λ (e, y). in_Tail (a n p q y)) ((must_tells b r t n p q).0 m)
+  must_among a n p q m = ⊎_elim (λ (e, y). at_head (alone gives y).0) (λ (e, y). in_tail (a n p q y)) ((must_tells b r t n p q).0 m)
 
 pub passed_among : Among [] Passed
 passed_among n p q t = absurd (passed_tells_none n p q t)

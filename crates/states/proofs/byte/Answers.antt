@@ -1,7 +1,7 @@
 -- `states::byte` meets its contract. Assumes nothing.
 use Prim.Native.Nat.{ℕ, ◌+◌, ◌*◌, ◌≤◌, ◌<◌}
 use native.Mathlib.Nat.{mul-le-mul}
-use Rattle.states.proofs.Words.{getD_within}
+use Rattle.states.proofs.Words.{get_or_within}
 use lib.ListN.{get_or-eq_default}
 use native.Mathlib.Omega.{arith}
 use Rattle.states.proofs.byte.Goals as goal
@@ -17,7 +17,7 @@ overflow_add-i c = omega (arith, product c.wide.result c.wide-2.result (omega ar
 
 pub returns-then-i-rows : goal.returns-then-i-rows
 returns-then-i-rows c =
-    cc (getD_within c.args.rows.now
+    cc (get_or_within c.args.rows.now
     (c.wide.result * c.wide-2.result + c.wide-3.result) 0 255 c.if-i-rows.true)
 
 pub returns : goal.returns
