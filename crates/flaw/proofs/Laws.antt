@@ -1,8 +1,7 @@
 -- Every statement of specs/Laws.antt, proved: other crates take the laws from here. Assumes nothing.
 use mathlib.Core.Path.{◌≡◌, refl}
 use mathlib.Core.Bool.{Bool, true, false}
-use Rattle.table.proofs.Checks.{clash}
-use Rattle.flaw.specs.Flaws.{must, of_fill, then, first_flaw}
+use Rattle.flaw.specs.Flaws.{first_flaw}
 use Rattle.flaw.specs.Laws.{Filled, Shows, FirstFlaw, NoFlaw}
 use Rattle.flaw.specs.declared.Fill as fill
 use Rattle.flaw.specs.declared.Fill.TheVariants.{Zero, Stray}

@@ -1,5 +1,5 @@
 -- What is shown of the flaws, each under one sentence. proofs/Laws.antt proves them all. Assumes nothing.
-use Rattle.std.specs.Prelude.{◌≡◌, true, false, ◌↔◌, ℕ}
+use Rattle.std.specs.Prelude.{◌≡◌, true, false, ◌↔◌}
 use Rattle.flaw.specs.Flaws.{first_flaw}
 use Rattle.flaw.specs.declared.Fill.TheVariants.{Zero, Stray}
 use Rattle.flaw.specs.declared.Flaw.{Flaw}

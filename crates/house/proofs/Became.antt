@@ -14,7 +14,6 @@ use Rattle.table.specs.declared.answer.Refusal.TheVariants.{Rows, States, Symbol
 use Rattle.flaw.specs.Flaws as flaw
 use Rattle.flaw.specs.declared.Flaw.TheVariants.{Check, Kind, Order, ByteOne, Number, Used, Source, Fill}
 use Rattle.flaw.specs.declared.Seen.{Seen}
-use Rattle.flaw.specs.declared.Test.TheVariants.{Failed}
 use Rattle.block.proofs.Laws.{flaw_told, first_stray}
 use Rattle.block.specs.Block as block
 use Rattle.block.specs.Limits.{check_at}

@@ -2,7 +2,7 @@
 use mathlib.Core.Path.{◌≡◌, refl, sym, ap, ◌∙◌}
 use mathlib.Core.Bool.{Bool, true, false}
 use mathlib.Core.List.{List}
-use Prim.Native.Nat.{ℕ, zero, suc, ◌+◌, ◌<◌}
+use Prim.Native.Nat.{ℕ, zero, suc, ◌<◌}
 use native.Mathlib.Omega.{arith}
 use lib.Dec.{eqb, leb}
 use lib.ListN.{length}
@@ -17,7 +17,6 @@ use Rattle.flaw.specs.declared.Flaw.{Flaw}
 use Rattle.flaw.specs.declared.Test.{Test}
 use Rattle.flaw.specs.declared.Test.TheVariants as test
 use Rattle.block.proofs.Laws.{block_passes}
-use Rattle.block.specs.Block.{GoodBlock, block_test}
 use Rattle.house.specs.Limits.{most_events}
 use Rattle.house.specs.File.{block_at, blocks, block_before, rows_of, events_of, contents_of}
 use Rattle.house.specs.Laws.{Faulty, BlockTold}

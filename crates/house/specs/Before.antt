@@ -23,7 +23,7 @@ use Rattle.house.specs.declared.answer.Reading.TheVariants as reading
 use Rattle.house.specs.declared.answer.Refusal.{Refusal}
 use Rattle.house.specs.declared.answer.Refusal.TheVariants.{Length, Block, Standard, Content}
 use Rattle.house.specs.declared.answer.Verdict.{Verdict}
-use Rattle.house.specs.declared.answer.Verdict.TheVariants.{Passed, Refused}
+use Rattle.house.specs.declared.answer.Verdict.TheVariants.{Passed}
 
 -- ONE BLOCK
 

@@ -1,11 +1,10 @@
 -- `block::check` meets its contract. The sum is that of the bytes passed, each at most 510 × 255. Assumes nothing.
 use mathlib.Core.Path.{◌≡◌, sym, ap, ◌∙◌}
-use Prim.Native.Nat.{ℕ, ◌+◌, ◌*◌, ◌%◌, ◌-◌, ◌≤◌, ◌<◌}
+use Prim.Native.Nat.{ℕ, ◌+◌, ◌*◌, ◌%◌, ◌≤◌, ◌<◌}
 use native.Mathlib.Nat.{mul-le-mul}
 use native.Mathlib.Omega.{arith}
 use borrow.Author.Rules.{rules}
 use Rattle.block.specs.Limits.{check_at, modulus}
-use Rattle.block.specs.Block.{weighed}
 use Rattle.block.proofs.Blocks.{weighed_none, weighed_more}
 use Rattle.block.proofs.check.Goals as goal
 

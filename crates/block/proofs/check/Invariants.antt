@@ -1,11 +1,7 @@
-use mathlib.Core.Path.{◌≡◌, sym, ap, ◌∙◌}
-use Prim.Native.Nat.{ℕ, ◌+◌, ◌*◌, ◌%◌, ◌-◌, ◌≤◌, ◌<◌}
-use native.Mathlib.Nat.{mul-le-mul}
-use native.Mathlib.Omega.{arith}
-use borrow.Author.Rules.{rules}
-use Rattle.block.specs.Limits.{check_at, modulus}
+use mathlib.Core.Path.{◌≡◌}
+use Prim.Native.Nat.{◌*◌, ◌-◌, ◌≤◌}
+use Rattle.block.specs.Limits.{check_at}
 use Rattle.block.specs.Block.{weighed}
-use Rattle.block.proofs.Blocks.{weighed_none, weighed_more}
 use Rattle.block.proofs.check.Given as goal
 
 abbrev pub invariant-loop-i : goal.invariant-loop-i

@@ -1,11 +1,6 @@
 -- `block::fill` meets its contract. No byte passed is a stray one. Assumes nothing.
-use mathlib.Core.Path.{◌≡◌}
-use mathlib.Core.Bool.{false}
-use Prim.Native.Nat.{ℕ, ◌+◌, ◌-◌, ◌≤◌, ◌<◌}
 use borrow.Author.Count.{below_more}
 use borrow.Author.Rules.{rules}
-use Rattle.block.specs.Limits.{check_at, payload_at}
-use Rattle.block.specs.Block.{used, stray}
 use Rattle.block.proofs.Blocks.{clean_before, clean_at, fill_none, fill_at}
 use Rattle.block.proofs.fill.Goals as goal
 

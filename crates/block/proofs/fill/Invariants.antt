@@ -1,11 +1,8 @@
 use mathlib.Core.Path.{◌≡◌}
 use mathlib.Core.Bool.{false}
 use Prim.Native.Nat.{ℕ, ◌+◌, ◌-◌, ◌≤◌, ◌<◌}
-use borrow.Author.Count.{below_more}
-use borrow.Author.Rules.{rules}
 use Rattle.block.specs.Limits.{check_at, payload_at}
 use Rattle.block.specs.Block.{used, stray}
-use Rattle.block.proofs.Blocks.{clean_before, clean_at, fill_none, fill_at}
 use Rattle.block.proofs.fill.Given as goal
 
 abbrev pub invariant-loop-i : goal.invariant-loop-i

@@ -1,5 +1,4 @@
 -- `block::look` meets its contract, part by part. Assumes nothing.
-use borrow.Author.Rules.{rules}
 use Rattle.block.specs.Block.{seen}
 use Rattle.block.proofs.look.Goals as goal
 

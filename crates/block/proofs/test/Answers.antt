@@ -1,5 +1,4 @@
 -- `block::test` meets its contract. Assumes nothing.
-use borrow.Author.Rules.{rules}
 use Rattle.block.specs.Block.{block_test}
 use Rattle.block.proofs.test.Goals as goal
 

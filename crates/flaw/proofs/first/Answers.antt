@@ -1,5 +1,4 @@
 -- `flaw::first` meets its contract: each part is tested, and the answers joined in their order. Assumes nothing.
-use borrow.Author.Rules.{rules}
 use Rattle.flaw.specs.Flaws.{first_flaw}
 use Rattle.flaw.proofs.first.Goals as goal
 

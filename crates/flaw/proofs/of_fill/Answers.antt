@@ -1,5 +1,4 @@
 -- `flaw::of_fill` meets its contract, arm by arm. Assumes nothing.
-use borrow.Author.Rules.{rules}
 use Rattle.flaw.proofs.of_fill.Goals as goal
 
 pub returns-in-Zero : goal.returns-in-Zero

@@ -1,5 +1,4 @@
 -- `flaw::tell` meets its contract. Assumes nothing.
-use borrow.Author.Rules.{rules}
 use Rattle.flaw.specs.Flaws.{told}
 use Rattle.flaw.proofs.tell.Goals as goal
 

@@ -1,5 +1,4 @@
 -- `flaw::then` meets its contract, arm by arm. Assumes nothing.
-use borrow.Author.Rules.{rules}
 use Rattle.flaw.proofs.then.Goals as goal
 
 pub returns-in-Passed : goal.returns-in-Passed

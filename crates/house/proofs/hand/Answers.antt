@@ -1,6 +1,5 @@
 -- `house::hand` meets its contract. Assumes nothing.
 use mathlib.Core.Path.{sym, ◌∙◌}
-use borrow.Author.Rules.{rules}
 use Rattle.house.specs.File.{rows_of, events_of}
 use Rattle.house.proofs.Tests.{handed_good, handed_refused}
 use Rattle.house.proofs.hand.Goals as goal

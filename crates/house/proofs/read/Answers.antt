@@ -1,6 +1,5 @@
 -- `house::read` meets its contract: a file that is refused leaves the buffers, and one that is good has room in them. Assumes nothing.
 use mathlib.Core.Path.{◌∙◌}
-use borrow.Author.Rules.{rules}
 use Rattle.house.specs.File.{rows_of, events_of}
 use Rattle.house.proofs.Tests.{roomy, good_passed, handed_after}
 use Rattle.house.proofs.read.Goals as goal

@@ -1,5 +1,4 @@
 -- `house::unpack` meets its contract. Assumes nothing.
-use borrow.Author.Rules.{rules}
 use Rattle.house.proofs.unpack.Goals as goal
 
 pub returns : goal.returns

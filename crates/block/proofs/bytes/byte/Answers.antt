@@ -1,7 +1,6 @@
 -- `bytes::byte` meets its contract. Assumes nothing.
 use mathlib.Core.Path.{sym}
 use lib.ListN.{get_or-eq_default}
-use borrow.Author.Rules.{rules}
 use Rattle.block.proofs.bytes.byte.Goals as goal
 
 pub returns-else-i-b : goal.returns-else-i-b

@@ -1,5 +1,4 @@
 -- `bytes::payload` meets its contract, whatever the slice's length. Assumes nothing.
-use borrow.Author.Rules.{rules}
 use Rattle.block.proofs.Blocks.{part}
 use Rattle.block.proofs.bytes.payload.Goals as goal
 

@@ -1,6 +1,5 @@
 -- `bytes::share` meets its contract. Assumes nothing.
 use mathlib.Core.Path.{sym, ◌∙◌}
-use borrow.Author.Rules.{rules}
 use Rattle.block.proofs.Blocks.{share_own, share_none}
 use Rattle.block.proofs.bytes.share.Goals as goal
 

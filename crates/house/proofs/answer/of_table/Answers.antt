@@ -1,5 +1,4 @@
 -- `answer::of_table` meets its contract, arm by arm. Assumes nothing.
-use borrow.Author.Rules.{rules}
 use Rattle.house.proofs.answer.of_table.Goals as goal
 
 pub returns-in-Passed : goal.returns-in-Passed

@@ -1,5 +1,4 @@
 -- `answer::tell` meets its contract, arm by arm. Assumes nothing.
-use borrow.Author.Rules.{rules}
 use Rattle.house.specs.Refusals.{told}
 use Rattle.house.proofs.answer.tell.Goals as goal
 

@@ -1,5 +1,4 @@
 -- `answer::then` meets its contract, arm by arm. Assumes nothing.
-use borrow.Author.Rules.{rules}
 use Rattle.house.proofs.answer.then.Goals as goal
 
 pub returns-in-Passed : goal.returns-in-Passed

@@ -1,5 +1,4 @@
 -- `content::answer` meets its contract, arm by arm. Assumes nothing.
-use borrow.Author.Rules.{rules}
 use Rattle.house.proofs.content.answer.Goals as goal
 
 pub returns-in-Passed : goal.returns-in-Passed

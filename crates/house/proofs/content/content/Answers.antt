@@ -1,9 +1,6 @@
 -- `content::content` meets its contract. Of the right length, the rows fit. Assumes nothing.
-use mathlib.Core.Path.{◌≡◌, sym, ◌∙◌}
-use borrow.Author.Rules.{rules}
+use mathlib.Core.Path.{sym, ◌∙◌}
 use Rattle.house.specs.File.{rows_of, events_of}
-use Rattle.house.specs.Reading.{shape_test}
-use Rattle.house.specs.declared.answer.Verdict.TheVariants.{Passed}
 use Rattle.house.proofs.Verdicts.{all_passed}
 use Rattle.house.proofs.Tests.{rows_fit, shape_refuses, shape_leaves}
 use Rattle.house.proofs.content.content.Goals as goal

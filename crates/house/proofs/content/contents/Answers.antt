@@ -1,5 +1,4 @@
 -- `content::contents` meets its contract. Assumes nothing.
-use borrow.Author.Rules.{rules}
 use Rattle.house.specs.File.{contents_of}
 use Rattle.house.proofs.content.contents.Goals as goal
 

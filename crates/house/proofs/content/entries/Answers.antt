@@ -1,12 +1,8 @@
 -- `content::entries` meets its contract: what was gathered is the rows. Assumes nothing.
-use mathlib.Core.Path.{sym}
 use Prim.Native.Nat.{ℕ, ◌≤◌}
 use native.Mathlib.Omega.{arith}
 use lib.ListN.{length, replicate, length-replicate}
-use lib.Seq.{length-take-le}
-use borrow.Author.Rules.{rules}
 use Rattle.house.specs.Limits.{most_rows}
-use Rattle.house.specs.Verdicts.{of_table}
 use Rattle.house.specs.File.{rows_of}
 use Rattle.house.specs.Reading.{rows_test}
 use Rattle.house.proofs.Files.{put_back}

@@ -1,5 +1,4 @@
 -- `content::fitted` meets its contract: each test is called, and the verdicts are joined in their order. Assumes nothing.
-use borrow.Author.Rules.{rules}
 use Rattle.house.specs.Reading.{shape_test, rows_test, limits_test, events_test, held_test}
 use Rattle.house.proofs.content.fitted.Goals as goal
 

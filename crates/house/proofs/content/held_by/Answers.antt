@@ -1,5 +1,4 @@
 -- `content::held_by` meets its contract. Assumes nothing.
-use borrow.Author.Rules.{rules}
 use Rattle.house.proofs.content.held_by.Goals as goal
 
 pub returns-in-Refused : goal.returns-in-Refused

@@ -1,6 +1,5 @@
 -- `content::judge` meets its contract. Assumes nothing.
 use mathlib.Core.Path.{ap, ◌∙◌}
-use borrow.Author.Rules.{rules}
 use Rattle.house.specs.File.{contents_of}
 use Rattle.house.specs.declared.answer.Contents.{Contents}
 use Rattle.house.proofs.Tests.{form_refuses, form_leaves}

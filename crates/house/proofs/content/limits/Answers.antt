@@ -1,5 +1,4 @@
 -- `content::limits` meets its contract. Assumes nothing.
-use borrow.Author.Rules.{rules}
 use Rattle.house.specs.Reading.{limits_test}
 use Rattle.house.proofs.content.limits.Goals as goal
 

@@ -1,5 +1,4 @@
 -- `content::room` meets its contract: each test is called, and the verdicts are joined in their order. Assumes nothing.
-use borrow.Author.Rules.{rules}
 use Rattle.house.specs.Reading.{room_test}
 use Rattle.house.proofs.content.room.Goals as goal
 

@@ -1,5 +1,4 @@
 -- `content::shape` meets its contract: each test is called, and the verdicts are joined in their order. Assumes nothing.
-use borrow.Author.Rules.{rules}
 use Rattle.house.specs.Reading.{shape_test}
 use Rattle.house.proofs.content.shape.Goals as goal
 

@@ -1,5 +1,4 @@
 -- `content::sized` meets its contract: each test is called, and the verdicts are joined in their order. Assumes nothing.
-use borrow.Author.Rules.{rules}
 use Rattle.house.proofs.content.sized.Goals as goal
 
 pub returns : goal.returns

@@ -1,6 +1,5 @@
 -- `content::standard` meets its contract, arm by arm. Assumes nothing.
 use borrow.Author.Tests.{eq-eqb, ne_eqb}
-use borrow.Author.Rules.{rules}
 use Rattle.house.proofs.content.standard.Goals as goal
 
 pub returns-then-states-ne-STANDARD_STATES : goal.returns-then-states-ne-STANDARD_STATES

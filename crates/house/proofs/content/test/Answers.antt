@@ -1,8 +1,6 @@
 -- `content::test` meets its contract: counts that pass fit a byte, and counts that do not are the answer. Assumes nothing.
-use mathlib.Core.Path.{◌≡◌, sym, ◌∙◌}
+use mathlib.Core.Path.{sym, ◌∙◌}
 use borrow.Author.Rules.{rules}
-use Rattle.table.specs.Tests.{counts_test}
-use Rattle.table.specs.declared.answer.Test.TheVariants.{Passed}
 use Rattle.house.specs.Reading.{shape_test, held_test}
 use Rattle.house.proofs.Tests.{counts_small}
 use Rattle.house.proofs.content.test.Goals as goal

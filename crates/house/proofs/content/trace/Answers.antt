@@ -1,5 +1,4 @@
 -- `content::trace` meets its contract. Assumes nothing.
-use borrow.Author.Rules.{rules}
 use Rattle.house.specs.Reading.{events_test}
 use Rattle.house.proofs.content.trace.Goals as goal
 

@@ -1,5 +1,4 @@
 -- `file::block_at` meets its contract. Assumes nothing.
-use borrow.Author.Rules.{rules}
 use Rattle.house.proofs.Files.{cut}
 use Rattle.house.proofs.file.block_at.Goals as goal
 

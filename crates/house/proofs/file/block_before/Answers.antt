@@ -1,6 +1,5 @@
 -- `file::block_before` meets its contract. Assumes nothing.
 use mathlib.Core.Path.{sym, ◌∙◌}
-use borrow.Author.Rules.{rules}
 use Rattle.house.proofs.Files.{before_first, before_later}
 use Rattle.house.proofs.file.block_before.Goals as goal
 

@@ -1,6 +1,5 @@
 -- `file::form` meets its contract. Assumes nothing.
 use mathlib.Core.Path.{sym, ◌∙◌}
-use borrow.Author.Rules.{rules}
 use Rattle.house.specs.Reading.{form_test}
 use Rattle.house.proofs.file.form.Goals as goal
 

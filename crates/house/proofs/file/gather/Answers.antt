@@ -1,10 +1,8 @@
 -- `file::gather` meets its contract: what the blocks passed hold stands at the start. Assumes nothing.
 use mathlib.Core.Path.{◌≡◌, refl, sym, ap, ◌∙◌}
-use Prim.Native.Nat.{◌-◌, ◌≤◌}
 use native.Mathlib.Omega.{arith}
 use lib.ListN.{length}
 use borrow.Author.Rules.{rules}
-use Rattle.lent.specs.Lent.{front}
 use Rattle.lent.proofs.Laws.{put_fits, put_short}
 use Rattle.house.specs.File.{blocks, joined}
 use Rattle.house.proofs.Files.{joined_none, part_adds, part_fits, part_put}

@@ -1,12 +1,8 @@
-use mathlib.Core.Path.{◌≡◌, refl, sym, ap, ◌∙◌}
+use mathlib.Core.Path.{◌≡◌}
 use Prim.Native.Nat.{◌-◌, ◌≤◌}
-use native.Mathlib.Omega.{arith}
 use lib.ListN.{length}
-use borrow.Author.Rules.{rules}
 use Rattle.lent.specs.Lent.{front}
-use Rattle.lent.proofs.Laws.{put_fits, put_short}
 use Rattle.house.specs.File.{blocks, joined}
-use Rattle.house.proofs.Files.{joined_none, part_adds, part_fits, part_put}
 use Rattle.house.proofs.file.gather.Given as goal
 
 abbrev pub invariant-loop-k : goal.invariant-loop-k

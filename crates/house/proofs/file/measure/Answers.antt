@@ -1,11 +1,9 @@
 -- `file::measure` meets its contract: the sum is the length of what the blocks passed hold. Assumes nothing.
 use mathlib.Core.Path.{◌≡◌, sym, ap}
-use Prim.Native.Nat.{◌*◌, ◌-◌, ◌≤◌}
 use native.Mathlib.Omega.{arith}
 use lib.ListN.{length}
 use borrow.Author.Rules.{rules}
-use Rattle.block.specs.Limits.{room}
-use Rattle.house.specs.File.{blocks, joined}
+use Rattle.house.specs.File.{blocks}
 use Rattle.house.proofs.Files.{joined_none, part_short, part_adds}
 use Rattle.house.proofs.file.measure.Goals as goal
 

@@ -1,11 +1,8 @@
-use mathlib.Core.Path.{◌≡◌, sym, ap}
+use mathlib.Core.Path.{◌≡◌}
 use Prim.Native.Nat.{◌*◌, ◌-◌, ◌≤◌}
-use native.Mathlib.Omega.{arith}
 use lib.ListN.{length}
-use borrow.Author.Rules.{rules}
 use Rattle.block.specs.Limits.{room}
 use Rattle.house.specs.File.{blocks, joined}
-use Rattle.house.proofs.Files.{joined_none, part_short, part_adds}
 use Rattle.house.proofs.file.measure.Given as goal
 
 abbrev pub invariant-loop-k : goal.invariant-loop-k

@@ -1,5 +1,4 @@
 -- `file::place_or` meets its contract. Assumes nothing.
-use borrow.Author.Rules.{rules}
 use Rattle.house.proofs.file.place_or.Goals as goal
 
 pub returns-in-Refused : goal.returns-in-Refused

@@ -1,11 +1,8 @@
 -- `file::test` meets its contract. The blocks passed are good. Assumes nothing.
 use mathlib.Core.Path.{◌≡◌, sym, ◌∙◌}
-use Prim.Native.Nat.{◌-◌, ◌≤◌}
 use native.Mathlib.Omega.{arith}
 use borrow.Author.Rules.{rules}
 use Rattle.house.specs.File.{blocks}
-use Rattle.house.specs.Reading.{blocks_test}
-use Rattle.house.specs.declared.answer.Verdict.TheVariants.{Passed}
 use Rattle.house.proofs.Verdicts.{blocks_none, blocks_good, blocks_bad, seen}
 use Rattle.house.proofs.file.test.Goals as goal
 

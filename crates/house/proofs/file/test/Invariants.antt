@@ -1,12 +1,8 @@
-use mathlib.Core.Path.{◌≡◌, sym, ◌∙◌}
+use mathlib.Core.Path.{◌≡◌}
 use Prim.Native.Nat.{◌-◌, ◌≤◌}
-use native.Mathlib.Omega.{arith}
-use borrow.Author.Tests.{not-true, not-false}
-use borrow.Author.Rules.{rules}
 use Rattle.house.specs.File.{blocks}
 use Rattle.house.specs.Reading.{blocks_test}
 use Rattle.house.specs.declared.answer.Verdict.TheVariants.{Passed}
-use Rattle.house.proofs.Verdicts.{blocks_none, blocks_good, blocks_bad, seen}
 use Rattle.house.proofs.file.test.Given as goal
 
 abbrev pub invariant-loop-k : goal.invariant-loop-k

@@ -1,5 +1,4 @@
 -- `file::valid` meets its contract: the test of events tells the first that is not valid. Assumes nothing.
-use borrow.Author.Rules.{rules}
 use Rattle.house.proofs.Events.{valid_told}
 use Rattle.house.proofs.file.valid.Goals as goal
 

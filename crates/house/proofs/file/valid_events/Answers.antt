@@ -1,13 +1,12 @@
 -- `file::valid_events` meets its contract: the events of the blocks passed are valid. Assumes nothing.
 use mathlib.Core.Path.{◌≡◌, sym, ap}
-use Prim.Native.Nat.{◌*◌, ◌-◌, ◌≤◌}
 use native.Mathlib.Omega.{arith}
 use lib.ListN.{length}
 use borrow.Author.Rules.{rules}
-use Rattle.block.specs.Limits.{room, event_kind}
-use Rattle.house.specs.File.{blocks, joined, events_of}
+use Rattle.block.specs.Limits.{event_kind}
+use Rattle.house.specs.File.{blocks, events_of}
 use Rattle.house.proofs.Files.{joined_none, part_share, part_short, part_adds}
-use Rattle.house.proofs.Events.{Clean, valid_all, valid_known, clean_more, found}
+use Rattle.house.proofs.Events.{valid_all, valid_known, clean_more, found}
 use Rattle.house.proofs.file.valid_events.Goals as goal
 
 pub loop-k-init : goal.loop-k-init

@@ -1,12 +1,9 @@
-use mathlib.Core.Path.{◌≡◌, sym, ap}
+use mathlib.Core.Path.{◌≡◌}
 use Prim.Native.Nat.{◌*◌, ◌-◌, ◌≤◌}
-use native.Mathlib.Omega.{arith}
 use lib.ListN.{length}
-use borrow.Author.Rules.{rules}
 use Rattle.block.specs.Limits.{room, event_kind}
 use Rattle.house.specs.File.{blocks, joined, events_of}
-use Rattle.house.proofs.Files.{joined_none, part_share, part_short, part_adds}
-use Rattle.house.proofs.Events.{Clean, valid_all, valid_known, clean_more, found}
+use Rattle.house.proofs.Events.{Clean}
 use Rattle.house.proofs.file.valid_events.Given as goal
 
 abbrev pub invariant-loop-k : goal.invariant-loop-k

@@ -8,9 +8,11 @@ use borrow.Author.Fill.{fill_more}
 use borrow.Author.Rules.{rules}
 use Rattle.writer.proofs.bytes.clear.Goals as goal
 
+-- one byte more
 more : (d x : List ℕ) (i : ℕ) → x ≡ replicate i 0 ++ drop i d → i < length d → set x i 0 ≡ replicate (i + 1) 0 ++ drop (i + 1) d
 more d x i e h = rw e (fill_more i 0 d h)
 
+-- and no more
 full : (d x : List ℕ) (i : ℕ) → x ≡ replicate i 0 ++ drop i d → i ≡ length d → x ≡ replicate (length d) 0
 full d x i e h =
     let g : length d ≤ length d = omega arith in

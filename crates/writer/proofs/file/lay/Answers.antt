@@ -11,6 +11,7 @@ use Rattle.writer.proofs.file.lay.Goals as goal
 
 pub slice_bounds-put-end-2 : goal.slice_bounds-put-end-2
 slice_bounds-put-end-2 c =
+    -- the buffer has room for one block
     let one_block : block_size ≤ length c.args.out.now = omega (arith, c.requires) in
     sym (length-take-le block_size c.args.out.now one_block)
 

@@ -20,6 +20,7 @@ loop-k-init c =
 
 pub slice_bounds-put-end : goal.slice_bounds-put-end
 slice_bounds-put-end c =
+    -- the block that comes next has its room
     let long : block_size * c.loop-k.k + block_size ≤ length c.loop-k.out = omega (arith, c.blocks_for-n.ensures, c.requires.out_len) in
     search (rules, long)
 
