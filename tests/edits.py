@@ -1,8 +1,8 @@
 """Edits that make a crate a wrong program, which the prover must refuse.
 
 An edit is a file of lines `file: PATH`, `old: TEXT` and `new: TEXT`, as rt reads it: each pair of `old:` and `new:` replaces the one place
-of PATH that has TEXT. Those in crates/NAME/must-fail are tried by `rt ci`, each a whole check of its crate; those in crates/NAME/wrong by
-tests/wrong. Here edits are found and applied, and what the prover said is judged.
+of PATH that has TEXT. Those in crates/NAME/must-fail are tried by `rt ci`, and those in crates/NAME/wrong by tests/wrong, which has rt try
+them likewise. Here edits are found, and what rt said of them is judged.
 """
 
 import re
@@ -11,12 +11,18 @@ from pathlib import Path
 ROOT = Path(__file__).resolve().parent.parent
 PARTS = ("src", "specs", "proofs")  # of a crate, as far as the prover reads it
 EDITED = ("src", "specs")  # an edit of a proof shows nothing of the promise
+LOG = ROOT / "target" / "ci.log"  # what `rt ci` said in ./test
+
+
+def lines():
+    """The lines of crates.txt by the crate that each lists, in their order."""
+    listed = [line.split("#")[0].strip() for line in (ROOT / "crates.txt").read_text(encoding="utf-8").split("\n")]
+    return {line.partition(":")[0].split()[0]: line for line in listed if ":" in line}
 
 
 def crates():
     """The crates that crates.txt lists, in its order, and what each stands on."""
-    lines = (ROOT / "crates.txt").read_text(encoding="utf-8").split("\n")
-    return {name.strip(): below.split() for name, colon, below in (line.split("#")[0].partition(":") for line in lines) if colon}
+    return {name: line.partition(":")[2].split() for name, line in lines().items()}
 
 
 def of(name, folder):
@@ -30,85 +36,51 @@ def remark(edit):
     return " ".join(line[1:].strip() for line in lines if line.startswith("#"))
 
 
-def apply(edit, crate):
-    """Applies the edit to the copy of its crate; returns a fault, or None."""
-    file = old = None
-    pairs = 0
+def misplaced(edit):
+    """A fault if the edit changes what shows nothing of a promise, or None."""
     for line in edit.read_text(encoding="utf-8").split("\n"):
-        if line.startswith("file: "):
-            file = line[len("file: ") :]
-            if Path(file).parts[:1] not in [(part,) for part in EDITED] or ".." in Path(file).parts:
-                return f"it edits {file}, and not src/ or specs/"
-            if not (crate / file).is_file():
-                return f"the crate has no {file}"
-        elif line.startswith("old: "):
-            old = line[len("old: ") :]
-        elif line.startswith("new:"):
-            if not file or not old:
-                return "a 'new:' without a 'file:' or an 'old:' before it"
-            text = (crate / file).read_text(encoding="utf-8")
-            if text.count(old) != 1:
-                return f"its old text is in {file} {text.count(old)} times, and not once"
-            (crate / file).write_text(text.replace(old, line[len("new:") :].removeprefix(" ")), encoding="utf-8")
-            old = None
-            pairs += 1
-    return None if pairs else "it changes nothing"
-
-
-# WHAT THE PROVER SAID
-
-# An error: where it is, and what it says.
-ERROR = re.compile(r"^(?:\S*/)?((?:src|specs|proofs)/\S+?): error[^:]*: (.*)$", re.MULTILINE)
-# What fails in a function that rt proves by itself: the place is in the source.
-NOTE = re.compile(r"^note: (?:\S*/)?(src/\S+?): (it is not proved that .*)$", re.MULTILINE)
-# An error that only follows from another one.
-FOLLOWS = re.compile("was not admitted .*, so this cannot be checked")
-# How the prover says that a proof no longer fits the code: it answers a need that is not there,
-NO_NEED = re.compile("that can be named from here")
-# or, if that is the first thing wrong, that of another place.
-OTHER_NEED = re.compile(r"expected type `tie\.Need-[^`]*`, but this has type `tie\.Need-")
-
-
-def is_proved(log):
-    return re.search(r"^logic=proved\b", log, re.MULTILINE) is not None
-
-
-def is_refused(log):
-    return re.search(r"^logic=not-proved\b", log, re.MULTILINE) is not None
-
-
-def modules_checked(log, name):
-    """How many modules of the crate were checked, and not taken as they were."""
-    found = re.search(rf"^crate {name}: modules loaded=\d+ checked=(\d+)", log, re.MULTILINE)
-    return int(found.group(1)) if found else 0
-
-
-def first_wrong(log):
-    """The first thing that is wrong in itself: where it stands, and what is said of it; or None and nothing."""
-    errors = [found for found in ERROR.finditer(log) if not FOLLOWS.search(found.group(2))]
-    found = errors[0] if errors else NOTE.search(log)
-    return found.groups() if found else (None, "")
-
-
-def fault_of(status, log):
-    """Why what the prover said is no refusal at a fact; None if it is one."""
-    if status == 0:
-        return "accepted: the crate is still proved with it"
-    if status != 1 or not is_refused(log):
-        return "it did not reach the prover"
-    place, said = first_wrong(log)
-    if place is None:
-        return "no fact fails"
-    if place.startswith("specs/"):
-        return "its first error is not in a proof"
-    if NO_NEED.search(log) or OTHER_NEED.search(said):
-        return "it only made a proof unfit for the code, and shows nothing"
+        file = line.partition("file: ")[2] if line.startswith("file: ") else None
+        if file and Path(file).parts[:1] not in [(part,) for part in EDITED]:
+            return f"it edits {file}, and not src/ or specs/"
     return None
 
 
-def fault_of_log(log):
-    """The same of a log that rt left, from which alone the status is known."""
-    if not log.exists():
-        return "no log: was rt run?"
-    text = log.read_text(encoding="utf-8", errors="replace")
-    return fault_of(1 if is_refused(text) else 0 if is_proved(text) else 2, text)
+# WHAT RT SAID
+
+# Of one edit.
+SAID = re.compile(r"^rt: must-fail (\S+?)/(\S+)\.edit: (.*)$", re.MULTILINE)
+# A refusal, and the first thing that is wrong in itself: where it stands, and what is said of it.
+REFUSED = re.compile(r"refused, as it must be: (?:note: )?(?:\./)?(\S+?:\d+:\d+): (.*)")
+
+
+def said_in(log):
+    """What rt said of each edit that it tried: by the crate and the edit's name."""
+    return {(name, edit): said for name, edit, said in SAID.findall(log)}
+
+
+def place_of(said):
+    """Where the first thing is that is wrong with a refused edit, or None."""
+    found = REFUSED.match(said or "")
+    return found.group(1) if found else None
+
+
+def fault_of(said):
+    """Why what rt said of an edit is no refusal at a fact; None if it is one."""
+    if said is None:
+        return "rt did not try it"
+    if said.startswith("NOT REFUSED"):
+        return "accepted: the crate is still proved with it"
+    if said.startswith("BAD EDIT: it did not reach the prover"):
+        return "it did not reach the prover"
+    if said.startswith("BAD EDIT: the prover cannot read"):
+        return "the prover cannot read it"
+    if not said.startswith("refused, as it must be"):
+        return said.removeprefix("BAD EDIT: ")
+    if "names what the edit took away" in said:
+        return "it only made a proof unfit for the code, and shows nothing"
+    if "only by a limit" in said:
+        return "it only met a limit of the prover, and shows nothing"
+    place = place_of(said)
+    if place is None:
+        return "no fact fails"
+    return "its first error is not in a proof" if place.startswith("specs/") else None
