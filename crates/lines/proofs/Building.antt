@@ -4,7 +4,7 @@ use mathlib.Core.List.{List, [], ◌∷◌, ◌++◌, append-nil, append_assoc}
 use Prim.Native.Nat.{ℕ, suc, ◌+◌, ◌≤◌, ◌<◌, min}
 use native.Mathlib.Numerals.{add-one}
 use native.Mathlib.Omega.{arith}
-use lib.ListN.{length, get_or, take, drop, set, replicate, length-append, length-replicate, get_or-replicate, drop_of_length-le}
+use lib.ListN.{length, get_or, take, drop, set, length-append, length-replicate, get_or-replicate, drop_of_length-le}
 use lib.Seq.{take_all, take-length, take-suc, take-append-le, drop-cons, append_snoc, set-append_seam}
 use Rattle.lines.specs.Texts.{most_text, blank, text_of, Adds}
 use Rattle.lines.specs.declared.text.Text.{Text}

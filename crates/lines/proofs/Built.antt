@@ -5,7 +5,7 @@ use Prim.Native.Nat.{ℕ}
 use lib.ListN.{get_or}
 use Rattle.table.specs.declared.answer.Told.{Told}
 use Rattle.lines.specs.Texts.{text_of, decimal, hexadecimal, Adds}
-use Rattle.lines.specs.Lines.{space, line_feed, symbol, states_in, pair, consistent, flagged, refused, second_place, event_line, refused_line}
+use Rattle.lines.specs.Lines.{space, line_feed, symbol, states_in, pair, refused, second_place, event_line, refused_line}
 use Rattle.lines.specs.declared.text.Text.{Text}
 use Rattle.lines.proofs.Building.{adds_then, adds_from}
 

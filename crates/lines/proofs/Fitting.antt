@@ -1,19 +1,18 @@
 -- Lines are short: no text leaves anything out. Assumes nothing.
-use mathlib.Core.Path.{◌≡◌, refl, sym, ◌∙◌, ap}
+use mathlib.Core.Path.{◌≡◌, refl}
 use mathlib.Core.Bool.{Bool, true, false, cond}
 use mathlib.Core.List.{List, [], ◌∷◌, ◌++◌}
-use Prim.Native.Nat.{ℕ, zero, suc, ◌+◌, ◌-◌, ◌*◌, ◌/◌, ◌%◌, ◌^◌, ◌≤◌, ◌<◌, min}
+use Prim.Native.Nat.{ℕ, zero, suc, ◌-◌, ◌/◌, ◌%◌, ◌^◌, ◌≤◌, ◌<◌, min}
 use native.Mathlib.Nat.{pow-suc}
 use native.Mathlib.Omega.{arith}
 use lib.Dec.{ltb, eqb}
-use lib.ListN.{length, get_or, take, drop, length-append}
+use lib.ListN.{length, get_or, drop, length-append}
 use lib.Seq.{take_all, take_at}
 use borrow.Author.Tests.{lt-ltb}
 use Rattle.io.specs.Digits.{hex_digit_ascii, last_digits}
-use Rattle.table.specs.declared.answer.Told.{Told}
 use Rattle.session.specs.declared.Flag.TheVariants as flag
 use Rattle.lines.specs.Texts.{most_text, blank, text_of, spelt, decimal, hexadecimal}
-use Rattle.lines.specs.Lines.{space, line_feed, dash, symbol, states_in, pair, consistent, flagged, refused, has_second, second_place, event_line, last_line, refused_line}
+use Rattle.lines.specs.Lines.{space, dash, symbol, states_in, pair, has_second, second_place, event_line, last_line, refused_line}
 use Rattle.lines.specs.Laws.{TextHolds, EventFits, LastFits, RefusedFits}
 
 abbrev after : ℕ → ℕ → Bool → List ℕ

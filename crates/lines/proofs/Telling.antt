@@ -2,21 +2,20 @@
 use mathlib.Core.Path.{◌≡◌, refl, ◌∙◌, ap}
 use mathlib.Core.Bool.{Bool, true, false, cond}
 use mathlib.Core.List.{List, [], ◌∷◌}
-use mathlib.Core.Logic.{◌↔◌}
 use Prim.Native.Nat.{ℕ, suc, ◌-◌, ◌^◌, ◌<◌}
 use native.Mathlib.Omega.{arith}
 use lib.Dec.{ltb}
-use lib.ListN.{length, get_or, take}
-use Rattle.model.specs.Model.{box, event, input, output, events, Config, cfg, Set, Plausible}
+use lib.ListN.{get_or, take}
+use Rattle.model.specs.Model.{box, event, input, output, events, Config, Set, Plausible}
 use Rattle.model.proofs.Demands.{contained}
 use Rattle.table.proofs.Laws.{given_means}
 use Rattle.table.specs.Bytes.{table_of}
 use Rattle.states.proofs.Same.{none_in, zero_none}
 use Rattle.session.proofs.Laws.{opening_passes}
-use Rattle.run.specs.Run.{StateOf, Line}
+use Rattle.run.specs.Run.{Line}
 use Rattle.run.proofs.Bytes.{number_read, small}
-use Rattle.lines.specs.Texts.{decimal, hexadecimal}
-use Rattle.lines.specs.Lines.{space, line_feed, symbol, states_in, pair, event_line}
+use Rattle.lines.specs.Texts.{decimal}
+use Rattle.lines.specs.Lines.{states_in, event_line}
 use Rattle.lines.specs.Laws.{SymbolShown, Tells, LineTells}
 
 -- THE SYMBOL

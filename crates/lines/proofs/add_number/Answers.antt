@@ -1,6 +1,4 @@
-use native.Mathlib.Omega.{arith}
 use Rattle.lines.proofs.Building.{adds_then}
-use borrow.Author.Rules.{rules}
 use Rattle.lines.proofs.add_number.Goals as goal
 
 pub returns : goal.returns

@@ -1,7 +1,5 @@
-use native.Mathlib.Omega.{arith}
 use Rattle.lines.proofs.Building.{adds_then}
 use borrow.Author.Tests.{eq-eqb, ne_eqb}
-use borrow.Author.Rules.{rules}
 use Rattle.lines.proofs.add_pair.Goals as goal
 
 pub returns-then-states-eq0 : goal.returns-then-states-eq0

@@ -1,7 +1,6 @@
 -- `lines::add_second` meets its contract. Assumes nothing.
 use mathlib.Core.Path.{sym, ◌∙◌}
 use Rattle.lines.proofs.Building.{adds_none}
-use borrow.Author.Rules.{rules}
 use Rattle.lines.proofs.add_second.Goals as goal
 
 pub returns-then-has_second : goal.returns-then-has_second

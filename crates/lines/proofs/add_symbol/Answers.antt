@@ -1,7 +1,5 @@
-use native.Mathlib.Omega.{arith}
 use Rattle.lines.proofs.Building.{adds_then}
 use borrow.Author.Tests.{lt-ltb, le-ltb}
-use borrow.Author.Rules.{rules}
 use Rattle.lines.proofs.add_symbol.Goals as goal
 
 pub returns-then-b-lt128 : goal.returns-then-b-lt128

@@ -1,7 +1,6 @@
 -- `first` meets its contract: the fixed bytes are the header's. Assumes nothing.
 use Rattle.lines.specs.Lines.{header}
 use Rattle.lines.proofs.Building.{adds_from}
-use borrow.Author.Rules.{rules}
 use Rattle.lines.proofs.first.Goals as goal
 
 pub returns : goal.returns

@@ -1,7 +1,5 @@
-use native.Mathlib.Omega.{arith}
 use Rattle.lines.proofs.Building.{adds_then, adds_from}
 use Rattle.lines.specs.Lines.{last_line}
-use borrow.Author.Rules.{rules}
 use Rattle.lines.proofs.last.Goals as goal
 
 pub returns-in-None : goal.returns-in-None

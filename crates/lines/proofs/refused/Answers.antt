@@ -1,6 +1,4 @@
-use native.Mathlib.Omega.{arith}
 use Rattle.lines.proofs.Built.{refused_built}
-use borrow.Author.Rules.{rules}
 use Rattle.lines.proofs.refused.Goals as goal
 
 pub returns : goal.returns

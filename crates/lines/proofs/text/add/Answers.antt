@@ -1,6 +1,4 @@
-use native.Mathlib.Omega.{arith}
 use Rattle.lines.proofs.Building.{room, full}
-use borrow.Author.Rules.{rules}
 use Rattle.lines.proofs.text.add.Goals as goal
 
 pub returns-then-used-lt96 : goal.returns-then-used-lt96

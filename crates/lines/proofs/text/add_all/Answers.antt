@@ -1,9 +1,5 @@
-use Prim.Native.Nat.{◌-◌, ◌≤◌}
 use native.Mathlib.Omega.{arith}
-use lib.ListN.{length, take}
-use Rattle.lines.specs.Texts.{Adds}
 use Rattle.lines.proofs.Building.{adds_none, adds_one, adds_all}
-use borrow.Author.Rules.{rules}
 use Rattle.lines.proofs.text.add_all.Goals as goal
 
 pub loop-i-init : goal.loop-i-init

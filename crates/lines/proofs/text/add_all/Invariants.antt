@@ -1,9 +1,6 @@
 use Prim.Native.Nat.{◌-◌, ◌≤◌}
-use native.Mathlib.Omega.{arith}
 use lib.ListN.{length, take}
 use Rattle.lines.specs.Texts.{Adds}
-use Rattle.lines.proofs.Building.{adds_none, adds_one, adds_all}
-use borrow.Author.Rules.{rules}
 use Rattle.lines.proofs.text.add_all.Given as goal
 
 abbrev pub invariant-loop-i : goal.invariant-loop-i

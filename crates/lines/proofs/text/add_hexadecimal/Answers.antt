@@ -1,5 +1,4 @@
 use mathlib.Core.Path.{◌∙◌}
-use native.Mathlib.Omega.{arith}
 use Rattle.lines.proofs.Building.{adds_same}
 use Rattle.lines.proofs.Numbers.{hexadecimal_digits}
 use borrow.Author.Rules.{rules}

@@ -1,6 +1,5 @@
 use Rattle.lines.specs.Texts.{blank}
 use Rattle.lines.proofs.Building.{text_empty}
-use borrow.Author.Rules.{rules}
 use Rattle.lines.proofs.text.empty.Goals as goal
 
 pub returns : goal.returns
