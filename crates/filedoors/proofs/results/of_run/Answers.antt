@@ -4,4 +4,4 @@ use borrow.Author.Rules.{rules}
 use Rattle.filedoors.proofs.results.of_run.Goals as goal
 
 pub returns : goal.returns
-returns c = rw (c.told.ensures, c.flag_word-f.ensures, mod-eq_of_lt c.requires)
+returns c = rw (c.told-t.ensures, c.flag_word-f.ensures, mod-eq_of_lt c.requires)
