@@ -1,17 +1,22 @@
 // Lists a house file: reads it, runs its trace, and writes the listing piece by piece, a line each, to a descriptor or into memory that is
 // lent. No input, however damaged, stops it; a failed read or write ends it. Which bytes a piece is, and how many there are,
-// specs/Listing.antt says; only `say`, `say_all`, `list_file` and `list` touch a descriptor, and of what they write no contract can speak.
+// specs/Listing.antt says; only `put`, `say`, `say_all`, `list_file`, `list_from` and `list` read or write, and of what they write no
+// contract can speak.
 #![tactic(auto)]
 
 ghost use Rattle.std.specs.Prelude.{◌≡◌};
 ghost use Rattle.lister.specs.Listing.{unless_broken, Comes};
 
+use intake::Descriptor;
 use judge::Judged;
 use lines::Text;
+use output::Output;
 use session::Flag;
+use std::io::{Read, Write};
 use table::Told;
 
 mod judge;
+mod output;
 mod pieces;
 mod whole;
 
@@ -42,14 +47,27 @@ pub struct Summary {
     pub flag: Flag,
 }
 
-fn say(output: i32, t: Text) -> bool {
+// Writes all the bytes, or stops at the first write that takes none or fails.
+fn put<W: Write>(output: &mut W, bytes: &[u8]) -> bool {
+    let mut done = 0;
+    while done < bytes.len() {
+        match output.write(&bytes[done..]) {
+            Ok(0) => return false,
+            Ok(n) => done += n,
+            Err(_) => return false,
+        }
+    }
+    true
+}
+
+fn say<W: Write>(output: &mut W, t: Text) -> bool {
     let bytes = t.bytes;
-    io::write_all(output, lent::front(&bytes, t.used))
+    put(output, lent::front(&bytes, t.used))
 }
 
 // The first n pieces, one after another.
-fn say_all<'a>(
-    output: i32,
+fn say_all<'a, W: Write>(
+    output: &mut W,
     n: usize,
     judged: Judged,
     length: usize,
@@ -58,7 +76,10 @@ fn say_all<'a>(
 ) -> bool {
     let mut k: usize = 0;
     while k < n {
-        if !say(output, pieces::piece(judged, length, events, results, k)) {
+        if !say(
+            &mut *output,
+            pieces::piece(judged, length, events, results, k),
+        ) {
             return false;
         }
         k += 1;
@@ -76,7 +97,7 @@ fn told(said: bool, outcome: Outcome) -> Outcome
 }
 
 // The listing of a file, of which these bytes were kept, and which has this length.
-fn list_file(output: i32, file: &[u8], length: usize) -> Outcome
+fn list_file<W: Write>(output: &mut W, file: &[u8], length: usize) -> Outcome
     ensures { Comes file.now result }
 {
     let mut events = judge::event_room();
@@ -94,11 +115,16 @@ fn list_file(output: i32, file: &[u8], length: usize) -> Outcome
 }
 
 // Lists the house file that `input` gives to its end; the listing goes to `output`.
-pub fn list(input: i32, output: i32) -> Outcome {
+pub fn list_from<R: Read, W: Write>(input: &mut R, output: &mut W) -> Outcome {
     let mut file = intake::file_room();
-    let came = intake::keep(input, &mut file);
+    let came = intake::keep_from(input, &mut file);
     if !came.whole {
         return Outcome::Broken;
     }
     list_file(output, lent::front(&file, came.kept), came.length)
+}
+
+// The same from one descriptor to another.
+pub fn list(input: i32, output: i32) -> Outcome {
+    list_from(&mut Descriptor::new(input), &mut Output(output))
 }

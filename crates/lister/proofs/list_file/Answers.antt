@@ -6,9 +6,9 @@ use Rattle.lister.proofs.Built.{few_listed, comes}
 use Rattle.lister.proofs.list_file.Goals as goal
 
 pub pieces-requires : goal.pieces-requires
-pieces-requires c = few_listed c.judge-judged.ensures
+pieces-requires g c = few_listed c.judge-judged.ensures
 
 pub returns : goal.returns
-returns c =
+returns g c =
     comes c.say_all-said.result c.event_room-events.ensures c.result_room-results.ensures c.judge-judged.ensures
     (c.told.ensures ∙ ap (unless_broken c.say_all-said.result) c.outcome.ensures)

@@ -3,7 +3,7 @@ use borrow.Author.Rules.{rules}
 use Rattle.lister.proofs.say_all.Given as goal
 
 abbrev pub invariant-loop-k : goal.invariant-loop-k
-invariant-loop-k l = l.k ≤ l.n
+invariant-loop-k g l = l.k ≤ l.n
 
 abbrev pub decreases-loop-k : goal.decreases-loop-k
-decreases-loop-k l = l.n - l.k
+decreases-loop-k g l = l.n - l.k

@@ -7,13 +7,17 @@ use Rattle.lister.proofs.pieces.piece.Goals as goal
 pub returns-in-Refused : goal.returns-in-Refused
 returns-in-Refused c =
     let a = c.args in
+    let (value, bytes) =
     refused_piece a.judged a.length a.events.now a.results.now a.k
-    (λ i. omega (arith, c.shared_slice_known-1.given i))
-    (λ i. omega (arith, c.shared_slice_known-2-1.given i)) c.in-Refused.is c.of_refusal.ensures
+    (λ i. omega (arith, c.type_inv.events i))
+    (λ i. omega (arith, c.type_inv.results i)) c.in-Refused.is c.of_refusal.ensures in
+    record { value = value; bytes_value = bytes }
 
 pub returns-in-Ran : goal.returns-in-Ran
 returns-in-Ran c =
     let a = c.args in
+    let (value, bytes) =
     listed_piece a.judged a.length a.events.now a.results.now a.k
-    (λ i. omega (arith, c.shared_slice_known-1.given i))
-    (λ i. omega (arith, c.shared_slice_known-2-1.given i)) c.in-Ran.is c.of_run.ensures
+    (λ i. omega (arith, c.type_inv.events i))
+    (λ i. omega (arith, c.type_inv.results i)) c.in-Ran.is c.of_run.ensures in
+    record { value = value; bytes_value = bytes }

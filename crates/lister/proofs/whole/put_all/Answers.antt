@@ -21,15 +21,15 @@ pub overflow_add-at : goal.overflow_add-at
 overflow_add-at c =
     let a = c.args in
     let text = piece_of a.judged a.length a.events.now a.results.now in
-    let (all, few) = used_all (text c.loop-k.k) c.piece-t.ensures.0 c.piece-t.ensures.1 in
+    let (all, few) = used_all (text c.loop-k.k) c.piece-t.ensures.value c.piece-t.ensures.bytes_value in
     omega (arith, c.loop-k.invariant.4, few, c.loop-k-test.true, c.requires.0)
 
 pub loop-k-preserved : goal.loop-k-preserved
 loop-k-preserved c =
     let a = c.args in
     let text = piece_of a.judged a.length a.events.now a.results.now in
-    let is : c.front.result.now ≡ text c.loop-k.k = c.front.ensures ∙ c.piece-t.ensures.1 in
-    let (all, few) = used_all (text c.loop-k.k) c.piece-t.ensures.0 c.piece-t.ensures.1 in
+    let is : c.front.result.now ≡ text c.loop-k.k = c.front.ensures ∙ c.piece-t.ensures.bytes_value in
+    let (all, few) = used_all (text c.loop-k.k) c.piece-t.ensures.value c.piece-t.ensures.bytes_value in
     let long = ap length is in (
       search rules,
       omega (arith, c.loop-k.invariant.1, length_next text c.loop-k.k _ is, all, long),

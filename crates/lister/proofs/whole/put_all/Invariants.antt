@@ -11,7 +11,7 @@ use Rattle.lister.proofs.Putting.{used_all, length_next, put_next}
 use Rattle.lister.proofs.whole.put_all.Given as goal
 
 abbrev pub invariant-loop-k : goal.invariant-loop-k
-invariant-loop-k l =    (l.k ≤ l.n) × (l.at ≡ length (joined (piece_of l.judged l.length l.events l.results) l.k))
+invariant-loop-k l = (l.k ≤ l.n) × (l.at ≡ length (joined (piece_of l.judged l.length l.events l.results) l.k))
     × (l.out ≡ front l.initial.out (joined (piece_of l.judged l.length l.events l.results) l.k)) × (length l.out ≡ length l.initial.out) × (l.at ≤ most_text * l.k)
 
 abbrev pub decreases-loop-k : goal.decreases-loop-k

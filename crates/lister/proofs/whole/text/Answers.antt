@@ -21,4 +21,4 @@ put_all-bytes-requires c =
 pub returns : goal.returns
 returns c =
     texts_by c.event_room-events.ensures c.result_room-results.ensures c.judge-judged.ensures
-    (le-leb _ _ c.if-out-lt-LISTING_ROOM.false) c.pieces.ensures c.put_all_lem.ensures c.refusal.ensures c.events.ensures c.flag.ensures
+    (le-leb _ _ c.if-out-lt-LISTING_ROOM.false) c.pieces.ensures c.put_all-bytes.ensures c.refusal.ensures c.events.ensures c.flag.ensures
