@@ -1,10 +1,10 @@
 -- A file with the check of block 0 put right, beside the old one. Assumes nothing.
 use mathlib.Core.Path.{◌≡◌, refl, sym, ap, ap₂, ◌∙◌}
-use mathlib.Core.Bool.{true, false}
+use mathlib.Core.Bool.{true}
 use mathlib.Core.List.{List, ◌∷◌, ◌++◌, append_assoc}
 use Prim.Native.Nat.{ℕ, ◌+◌, ◌/◌, ◌%◌, ◌≤◌, ◌<◌}
 use native.Mathlib.Omega.{arith}
-use lib.Dec.{eqb, leb}
+use lib.Dec.{leb}
 use lib.ListN.{length, take, drop, get_or, length-append, take-append-drop}
 use lib.Seq.{length-take-le, take-append-le, drop-append-le, take_at, drop-cons, get_or-append-add, get_or-take}
 use borrow.Author.Tests.{leb-true, le-leb, eqb-true, eqb-false}

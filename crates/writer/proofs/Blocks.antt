@@ -9,7 +9,7 @@ use lib.ListN.{length, drop, get_or, replicate, length-append, length-take, leng
 use lib.Seq.{get_or-append-add, get_or-take, get_or-drop, ext_get_or}
 use Rattle.model.specs.Limits.{UpTo}
 use Rattle.block.specs.Limits.{block_size, payload_at, check_at, room, modulus, setup_kind, row_kind, event_kind, setup_size}
-use Rattle.block.specs.Block.{byte, two, kind, byte_one, number, used, payload, stored, weighed, check, source, GoodBlock}
+use Rattle.block.specs.Block.{byte, two, kind, byte_one, number, used, payload, stored, weighed, check, GoodBlock}
 use Rattle.writer.specs.Writing.{Spelt}
 use Rattle.writer.specs.Layout.{spelling, header, body, block_of}
 

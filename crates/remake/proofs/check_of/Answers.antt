@@ -1,5 +1,4 @@
 -- `check_of` meets its contract: a check has two bytes. Assumes nothing.
-use borrow.Author.Rules.{rules}
 use Rattle.remake.proofs.check_of.Goals as goal
 
 pub returns : goal.returns

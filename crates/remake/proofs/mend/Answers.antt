@@ -1,6 +1,5 @@
 -- `mend` meets its contract. Assumes nothing.
 use mathlib.Core.Path.{sym, ◌∙◌}
-use borrow.Author.Rules.{rules}
 use borrow.Author.Tests.{lt-leb}
 use Rattle.remake.specs.Mending.{broken, short}
 use Rattle.remake.proofs.Mending.{mended_by}

@@ -2,7 +2,6 @@
 use Prim.Native.Nat.{ℕ}
 use lib.ListN.{length-replicate}
 use Rattle.remake.proofs.Remaking.{unmade, rebinds}
-use borrow.Author.Rules.{rules}
 use Rattle.remake.proofs.rebound.Goals as goal
 
 pub returns-in-Refused : goal.returns-in-Refused

@@ -2,7 +2,6 @@
 use mathlib.Core.Path.{sym, ◌∙◌}
 use native.Mathlib.Omega.{arith}
 use lib.Seq.{length-take-le}
-use borrow.Author.Rules.{rules}
 use Rattle.house.proofs.Laws.{rows_fit}
 use Rattle.writer.proofs.Placing.{no_room, placed}
 use Rattle.writer.proofs.place.Goals as goal

@@ -1,5 +1,4 @@
 -- `of_write` meets its contract. Assumes nothing.
-use borrow.Author.Rules.{rules}
 use Rattle.writerdoors.proofs.of_write.Goals as goal
 
 pub returns : goal.returns

@@ -2,7 +2,6 @@
 use borrow.Author.Tests.{lt-leb, le-leb}
 use Rattle.writerdoors.specs.Results as doors
 use Rattle.writerdoors.proofs.Answers.{writes_by}
-use borrow.Author.Rules.{rules}
 use Rattle.writerdoors.proofs.rillmoth_retrace.Goals as goal
 
 pub returns-then-told-lt-WRITE : goal.returns-then-told-lt-WRITE

@@ -1,11 +1,10 @@
 -- `bytes::clear` meets its contract: the bytes passed are zero. Assumes nothing.
 use mathlib.Core.Path.{◌≡◌, refl, ◌∙◌}
 use mathlib.Core.List.{List, ◌++◌, append-nil}
-use Prim.Native.Nat.{ℕ, ◌+◌, ◌-◌, ◌≤◌, ◌<◌}
+use Prim.Native.Nat.{ℕ, ◌+◌, ◌≤◌, ◌<◌}
 use native.Mathlib.Omega.{arith}
 use lib.ListN.{length, set, drop, replicate, length-set, drop_of_length-le}
 use borrow.Author.Fill.{fill_more}
-use borrow.Author.Rules.{rules}
 use Rattle.writer.proofs.bytes.clear.Goals as goal
 
 -- one byte more

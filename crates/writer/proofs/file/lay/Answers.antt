@@ -4,7 +4,6 @@ use Prim.Native.Nat.{◌≤◌}
 use native.Mathlib.Omega.{arith}
 use lib.ListN.{length}
 use lib.Seq.{length-take-le}
-use borrow.Author.Rules.{rules}
 use Rattle.block.specs.Limits.{block_size}
 use Rattle.writer.proofs.Laying.{file_put}
 use Rattle.writer.proofs.file.lay.Goals as goal

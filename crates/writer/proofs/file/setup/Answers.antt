@@ -1,5 +1,4 @@
 -- `file::setup` meets its contract. Assumes nothing.
-use borrow.Author.Rules.{rules}
 use Rattle.writer.proofs.file.setup.Goals as goal
 
 pub returns : goal.returns

@@ -1,6 +1,5 @@
 -- `payload::piece` meets its contract: a full piece, or what is left. Assumes nothing.
 use native.Mathlib.Omega.{arith}
-use borrow.Author.Rules.{rules}
 use Rattle.writer.proofs.Laying.{piece_last, piece_whole}
 use Rattle.writer.proofs.payload.piece.Goals as goal
 

@@ -1,6 +1,5 @@
 -- `payload::put` meets its contract: what the stores make is the block. Assumes nothing.
 use mathlib.Core.Path.{refl}
-use borrow.Author.Rules.{rules}
 use Rattle.writer.proofs.Laying.{written}
 use Rattle.writer.proofs.payload.put.Goals as goal
 

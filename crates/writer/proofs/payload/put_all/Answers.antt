@@ -1,14 +1,12 @@
 -- `payload::put_all` meets its contract: the blocks passed stand at the start. Assumes nothing.
-use mathlib.Core.Path.{◌≡◌, refl, ap, ◌∙◌}
-use mathlib.Core.List.{◌++◌}
-use Prim.Native.Nat.{◌+◌, ◌*◌, ◌-◌, ◌≤◌}
+use mathlib.Core.Path.{refl, ap, ◌∙◌}
+use Prim.Native.Nat.{◌+◌, ◌*◌, ◌≤◌}
 use native.Mathlib.Omega.{arith}
-use lib.ListN.{length, drop}
+use lib.ListN.{length}
 use borrow.Author.Rules.{rules}
 use borrow.Rule.Slice.PartMut.{mid_len}
 use Rattle.block.specs.Limits.{block_size}
-use Rattle.writer.specs.Writing.{blocks_for}
-use Rattle.writer.specs.Layout.{block_of, run_of}
+use Rattle.writer.specs.Layout.{block_of}
 use Rattle.writer.proofs.Files.{piece_short}
 use Rattle.writer.proofs.Laying.{run_none, run_put, run_full}
 use Rattle.writer.proofs.payload.put_all.Goals as goal

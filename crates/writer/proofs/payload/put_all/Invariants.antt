@@ -1,15 +1,10 @@
-use mathlib.Core.Path.{◌≡◌, refl, ap, ◌∙◌}
+use mathlib.Core.Path.{◌≡◌}
 use mathlib.Core.List.{◌++◌}
-use Prim.Native.Nat.{◌+◌, ◌*◌, ◌-◌, ◌≤◌}
-use native.Mathlib.Omega.{arith}
+use Prim.Native.Nat.{◌*◌, ◌-◌, ◌≤◌}
 use lib.ListN.{length, drop}
-use borrow.Author.Rules.{rules}
-use borrow.Rule.Slice.PartMut.{mid_len}
 use Rattle.block.specs.Limits.{block_size}
 use Rattle.writer.specs.Writing.{blocks_for}
-use Rattle.writer.specs.Layout.{block_of, run_of}
-use Rattle.writer.proofs.Files.{piece_short}
-use Rattle.writer.proofs.Laying.{run_none, run_put, run_full}
+use Rattle.writer.specs.Layout.{run_of}
 use Rattle.writer.proofs.payload.put_all.Given as goal
 
 abbrev pub invariant-loop-k : goal.invariant-loop-k

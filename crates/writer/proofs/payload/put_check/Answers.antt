@@ -1,5 +1,4 @@
 -- `payload::put_check` meets its contract, store by store. Assumes nothing.
-use borrow.Author.Rules.{rules}
 use Rattle.writer.proofs.payload.put_check.Goals as goal
 
 pub returns : goal.returns

@@ -1,7 +1,6 @@
 -- `payload::put_header` meets its contract, store by store. Assumes nothing.
 use native.Mathlib.Omega.{arith}
 use lib.ListN.{length-set}
-use borrow.Author.Rules.{rules}
 use Rattle.writer.proofs.payload.put_header.Goals as goal
 
 pub bounds-out-4 : goal.bounds-out-4
