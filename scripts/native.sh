@@ -16,13 +16,32 @@ native_lib() { # NAME [LOG]
   (set -o pipefail && cd "$kit_root/crates/$1" && rt lib 2>&1 | tee "$log" >>"${2:-/dev/null}") || { tail -n 20 "$log" >&2; return 1; }
 }
 
+# Puts into ARCHIVE what it calls of the kit's own C, such as what reads errno, under names that no other object sees. Where it calls nothing
+# of that, it stays as rt wrote it.
+native_complete() { # ARCHIVE
+  local archive=$1 room tool status=0
+  room=$(mktemp -d) || return 1
+  # The clang of the kit is several programs by its name.
+  for tool in llvm-nm llvm-objcopy; do ln -s "$kit_tools/bin/clang" "$room/$tool"; done
+  calls() { "$room/llvm-nm" --undefined-only --just-symbol-name "$1" | grep -E '^(__)?rattle_'; }
+  if calls "$archive" >"$room/calls"; then
+    "$room/llvm-nm" --defined-only --extern-only --just-symbol-name "$archive" | grep -v -e ':$' -e '^$' >"$room/exports" &&
+      "$kit_tools/bin/ld.lld" -r --whole-archive "$archive" --no-whole-archive "$kit_home"/c/lib{os,libc}_c.a -o "$room/whole.o" &&
+      "$room/llvm-objcopy" --keep-global-symbols="$room/exports" "$room/whole.o" && ! calls "$room/whole.o" >&2 &&
+      rm -f "$archive" && "$kit_tools/bin/llvm-ar" rcsD "$archive" "$room/whole.o" || status=1
+  fi
+  rm -rf "$room"
+  return "$status"
+}
+
 # Prints the path of the archive with the functions of the crate NAME.
 # It is made anew only where something that it is made of has changed.
 native_library() { # NAME [LOG]
   local name=$1 library=$kit_built/native/lib$1.a sum
   sum=$(kit_crates_sum "$name") || return 1
   if ! kit_made_of "$library" "$sum"; then
-    native_lib "$@" && cp "$kit_root/crates/$name/out/lib$name.a" "$library" && kit_note "$library" "$sum" || return 1
+    native_lib "$@" && cp "$kit_root/crates/$name/out/lib$name.a" "$library" && native_complete "$library" && kit_note "$library" "$sum" ||
+      return 1
   fi
   echo "$library"
 }
@@ -51,7 +70,7 @@ native_module() { # NAME
   sum=$(kit_crates_sum "$name") || return 1
   if ! kit_made_of "$module" "$sum"; then
     # Over the libraries that it stands on, as rt left them. The room lies elsewhere: rt takes no link in this folder.
-    native_library "$name" >/dev/null && { cmp -s "$kit_built/native/lib$name.a" "$out" || native_lib "$name"; } || return 1
+    native_lib "$name" || return 1
     for crate in $(kit_below "$name"); do
       [ "$crate" = "$name" ] || words+=(--extern "$crate=$kit_root/crates/$crate/out/rlib/$crate.rlib")
     done
