@@ -2,8 +2,8 @@
 // (bench/door), on the same workloads in one process. Prints a markdown table. Exit status 1 where they do not agree.
 //
 // The functions within the library have no names to link to. bench/run makes a second copy of its modules, in which those that are called
-// here have one; they are called as the modules themselves call them: the answer's address first, a slice as the address of its address and
-// count, a session by its address.
+// here have one; they are called as the modules themselves call them: the answer's address first, a slice as its address and count, a session
+// by its address.
 #include <time.h>
 
 #include <algorithm>
@@ -16,14 +16,10 @@
 using namespace monitors;
 
 extern "C" {
-struct inner_slice {
-    const void *at;
-    size_t count;
-};
-void inner_session_in(void *session, const inner_slice *words, const inner_slice *bytes);
+void inner_session_in(void *session, const uint64_t *words, size_t words_count, const uint8_t *bytes, size_t bytes_count);
 void inner_feed(void *fed, const void *session, uint8_t event);
-void inner_run(void *ran, const inner_slice *rows, size_t states, size_t inputs, size_t outputs, size_t waiting, size_t losses,
-               const inner_slice *trace, const inner_slice *out);
+void inner_run(void *ran, const uint8_t *rows, size_t rows_count, size_t states, size_t inputs, size_t outputs, size_t waiting, size_t losses,
+               const uint8_t *trace, size_t trace_count, uint8_t *out, size_t out_count);
 
 struct door_box {
     const uint8_t *rows;
@@ -72,10 +68,9 @@ using feed_loop = void(const workload &w, size_t events, uint64_t *set);
 
 void feeds_within(const workload &w, size_t events, uint64_t *set) {
     memory m = opened(w);
-    inner_slice words = {m.words, session_words}, bytes = {m.bytes, session_bytes};
     alignas(16) static uint8_t one[fed_session_at + session_size], other[fed_session_at + session_size];
     uint8_t *from = one, *to = other;
-    inner_session_in(from + fed_session_at, &words, &bytes);
+    inner_session_in(from + fed_session_at, m.words, session_words, m.bytes, session_bytes);
     for (size_t k = 0; k < events; ++k) {
         inner_feed(to, from + fed_session_at, w.trace[k]);
         std::swap(from, to);
@@ -106,10 +101,10 @@ void feeds_through_rust(const workload &w, size_t events, uint64_t *set) {
 using run_loop = void(const workload &w, size_t events, std::vector<uint8_t> &out, size_t times);
 
 void runs_within(const workload &w, size_t events, std::vector<uint8_t> &out, size_t times) {
-    inner_slice rows = {w.box.rows.data(), w.box.rows.size()}, trace = {w.trace.data(), events}, room = {out.data(), out.size()};
     alignas(16) uint8_t ran[256];
     for (size_t k = 0; k < times; ++k)
-        inner_run(ran, &rows, w.box.states, w.box.inputs, w.box.outputs, w.limits.waiting, w.limits.losses, &trace, &room);
+        inner_run(ran, w.box.rows.data(), w.box.rows.size(), w.box.states, w.box.inputs, w.box.outputs, w.limits.waiting, w.limits.losses,
+                  w.trace.data(), events, out.data(), out.size());
 }
 
 void runs_through_c(const workload &w, size_t events, std::vector<uint8_t> &out, size_t times) {
