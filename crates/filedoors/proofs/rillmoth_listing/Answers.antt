@@ -3,7 +3,6 @@ use mathlib.Core.Path.{sym, ◌∙◌}
 use Rattle.filedoors.specs.Doors as doors
 use Rattle.filedoors.proofs.Flags.{listed_small}
 use Rattle.filedoors.proofs.Answers.{lists_by}
-use borrow.Author.Rules.{rules}
 use Rattle.filedoors.proofs.rillmoth_listing.Goals as goal
 
 pub returns-then-not-roomy : goal.returns-then-not-roomy

@@ -2,7 +2,6 @@
 use Rattle.filedoors.proofs.Answers.{reads_by}
 use borrow.Author.Tests.{lt-leb, le-leb}
 use Rattle.filedoors.specs.Doors as doors
-use borrow.Author.Rules.{rules}
 use Rattle.filedoors.proofs.rillmoth_read.Goals as goal
 
 pub returns-then-told-lt-READ : goal.returns-then-told-lt-READ

@@ -3,7 +3,6 @@ use Rattle.filedoors.proofs.Flags.{ran_small}
 use Rattle.filedoors.proofs.Answers.{runs_by}
 use borrow.Author.Tests.{lt-leb, le-leb}
 use Rattle.filedoors.specs.Doors as doors
-use borrow.Author.Rules.{rules}
 use Rattle.filedoors.proofs.rillmoth_run.Goals as goal
 
 pub returns-then-told-lt-RUN : goal.returns-then-told-lt-RUN

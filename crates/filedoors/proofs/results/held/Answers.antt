@@ -1,5 +1,4 @@
 -- `results::held` meets its contract. Assumes nothing.
-use borrow.Author.Rules.{rules}
 use Rattle.filedoors.proofs.results.held.Goals as goal
 
 pub returns-in-Refused : goal.returns-in-Refused

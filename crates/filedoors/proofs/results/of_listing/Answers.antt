@@ -1,6 +1,5 @@
 -- `results::of_listing` meets its contract. Assumes nothing.
 use native.Mathlib.Nat.{mod-eq_of_lt}
-use borrow.Author.Rules.{rules}
 use Rattle.filedoors.proofs.results.of_listing.Goals as goal
 
 pub returns : goal.returns

@@ -1,5 +1,4 @@
 -- `results::of_read` meets its contract. Assumes nothing.
-use borrow.Author.Rules.{rules}
 use Rattle.filedoors.proofs.results.of_read.Goals as goal
 
 pub returns : goal.returns

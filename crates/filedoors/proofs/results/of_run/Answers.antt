@@ -1,6 +1,5 @@
 -- `results::of_run` meets its contract. Assumes nothing.
 use native.Mathlib.Nat.{mod-eq_of_lt}
-use borrow.Author.Rules.{rules}
 use Rattle.filedoors.proofs.results.of_run.Goals as goal
 
 pub returns : goal.returns

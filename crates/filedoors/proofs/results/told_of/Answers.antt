@@ -1,5 +1,4 @@
 -- `results::told_of` meets its contract. Assumes nothing.
-use borrow.Author.Rules.{rules}
 use Rattle.filedoors.proofs.results.told_of.Goals as goal
 
 pub returns-in-Refused : goal.returns-in-Refused
