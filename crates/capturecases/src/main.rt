@@ -6,7 +6,8 @@
 ghost use Rattle.std.specs.Prelude.{◌≤◌};
 
 use capture::{Handed, Imported, Taken, reader};
-use libc::STDOUT_FILENO;
+use std::rt::Files;
+use std::{env, fs, io};
 use table::Told;
 
 // More than the longest capture among the cases, and more than its records.
@@ -38,39 +39,39 @@ fn digest(buffer: &[u8]) -> u64 {
     sum
 }
 
-fn write(text: &[u8]) {
-    io::write_all(STDOUT_FILENO, text);
+fn write(rt: &impl Print, text: &[u8]) -> io::Result<()> {
+    rt.write_all(text)
 }
 
-fn figure(name: &[u8], n: u64) {
-    write(b" ");
-    write(name);
-    write(b" ");
-    io::print_decimal(STDOUT_FILENO, n);
+fn figure(rt: &impl Print, name: &[u8], n: u64) -> io::Result<()> {
+    write(rt, b" ")?;
+    write(rt, name)?;
+    write(rt, b" ")?;
+    rt.print(n)
 }
 
-fn refused(told: Told) {
-    figure(b"refused", told.number as u64);
-    write(b" ");
-    io::print_decimal(STDOUT_FILENO, told.place as u64);
+fn refused(rt: &impl Print, told: Told) -> io::Result<()> {
+    figure(rt, b"refused", told.number as u64)?;
+    write(rt, b" ")?;
+    rt.print(told.place)
 }
 
 // IMPORTING
 
-fn outcome(imported: Imported) {
+fn outcome(rt: &impl Print, imported: Imported) -> io::Result<()> {
     match imported {
-        Imported::Good(n) => figure(b"events", n as u64),
-        Imported::Refused(r) => refused(capture::tell(r)),
+        Imported::Good(n) => figure(rt, b"events", n as u64),
+        Imported::Refused(r) => refused(rt, capture::tell(r)),
     }
 }
 
 // Imports the capture into this buffer, and writes the rest of the line.
-fn import(bytes: &[u8], events: &mut [u8]) -> Imported {
+fn import(rt: &impl Print, bytes: &[u8], events: &mut [u8]) -> io::Result<Imported> {
     let imported = capture::import(bytes, events);
-    outcome(imported);
-    figure(b"digest", digest(events));
-    write(b"\n");
-    imported
+    outcome(rt, imported)?;
+    figure(rt, b"digest", digest(events))?;
+    write(rt, b"\n")?;
+    Ok(imported)
 }
 
 fn least(a: usize, b: usize) -> usize
@@ -81,20 +82,22 @@ fn least(a: usize, b: usize) -> usize
 }
 
 // Imports it into a buffer of this length, which the line tells.
-fn within(name: &[u8], bytes: &[u8], room: usize) {
+fn within(rt: &impl Print, name: &[u8], bytes: &[u8], room: usize) -> io::Result<()> {
     let mut space = [MARK; EVENT_ROOM];
-    write(name);
-    figure(b"in", room as u64);
+    write(rt, name)?;
+    figure(rt, b"in", room as u64)?;
     let n = least(room, EVENT_ROOM);
-    import(bytes, &mut space[..n]);
+    import(rt, bytes, &mut space[..n])?;
+    Ok(())
 }
 
 // A good capture again: in a buffer that is just long enough, and in one that is too short by a byte.
-fn tight(name: &[u8], bytes: &[u8], events: usize) {
-    within(name, bytes, events);
+fn tight(rt: &impl Print, name: &[u8], bytes: &[u8], events: usize) -> io::Result<()> {
+    within(rt, name, bytes, events)?;
     if events > 0 {
-        within(name, bytes, events - 1);
+        within(rt, name, bytes, events - 1)?;
     }
+    Ok(())
 }
 
 // READING
@@ -115,14 +118,14 @@ fn event(taken: Taken) -> u8 {
     }
 }
 
-fn said(handed: Handed) {
+fn said(rt: &impl Print, handed: Handed) -> io::Result<()> {
     let taken = handed.taken;
     match taken {
-        Taken::Event(byte) => figure(b"event", byte as u64),
-        Taken::End => write(b" end"),
-        Taken::Refused(r) => refused(capture::tell(r)),
+        Taken::Event(byte) => figure(rt, b"event", byte as u64)?,
+        Taken::End => write(rt, b" end")?,
+        Taken::Refused(r) => refused(rt, capture::tell(r))?,
     }
-    figure(b"then", handed.place as u64);
+    figure(rt, b"then", handed.place as u64)
 }
 
 // How many events the reader hands out, one a call, into this buffer. Each call is at the place that the one before left.
@@ -142,60 +145,57 @@ fn called(bytes: &[u8], events: &mut [u8]) -> usize {
     place
 }
 
-fn read(name: &[u8], bytes: &[u8]) {
+fn read(rt: &impl Print, name: &[u8], bytes: &[u8]) -> io::Result<()> {
     let mut events = [MARK; EVENT_ROOM];
     let n = called(bytes, &mut events);
-    write(name);
-    figure(b"read", n as u64);
-    figure(b"digest", digest(&events));
-    said(reader::hand(bytes, n));
-    write(b"\n");
+    write(rt, name)?;
+    figure(rt, b"read", n as u64)?;
+    figure(rt, b"digest", digest(&events))?;
+    said(rt, reader::hand(bytes, n))?;
+    write(rt, b"\n")
 }
 
-fn at(name: &[u8], bytes: &[u8], place: usize) {
-    write(name);
-    figure(b"at", place as u64);
-    said(reader::hand(bytes, place));
-    write(b"\n");
+fn at(rt: &impl Print, name: &[u8], bytes: &[u8], place: usize) -> io::Result<()> {
+    write(rt, name)?;
+    figure(rt, b"at", place as u64)?;
+    said(rt, reader::hand(bytes, place))?;
+    write(rt, b"\n")
 }
 
 // All lines of one capture. Number 10 comes last of all, so one that is refused is refused alike with no buffer at all.
-fn file(name: &[u8], bytes: &[u8]) {
+fn file(rt: &impl Print, name: &[u8], bytes: &[u8]) -> io::Result<()> {
     let mut events = [MARK; EVENT_ROOM];
-    write(name);
-    let imported = import(bytes, &mut events);
+    write(rt, name)?;
+    let imported = import(rt, bytes, &mut events)?;
     if let Imported::Good(n) = imported {
-        tight(name, bytes, n);
+        tight(rt, name, bytes, n)?;
     }
-    within(name, bytes, 0);
-    read(name, bytes);
-    at(name, bytes, 1);
-    at(name, bytes, 2);
-    at(name, bytes, 1048576);
-    at(name, bytes, 18446744073709551615);
+    within(rt, name, bytes, 0)?;
+    read(rt, name, bytes)?;
+    at(rt, name, bytes, 1)?;
+    at(rt, name, bytes, 2)?;
+    at(rt, name, bytes, 1048576)?;
+    at(rt, name, bytes, 18446744073709551615)
 }
 
-// The capture that argument i names.
-fn named(i: usize) {
-    let mut name = io::buffer();
-    let length = os::arg(i, &mut name);
-    let fd = os::open_read(&name[..length]);
-    if fd < 0 {
-        write(&name[..length]);
-        write(b" cannot be opened\n");
-        return;
+// The capture of this name.
+fn named(rt: &(impl Files + Print), name: &str) -> io::Result<()> {
+    match fs::open(rt, name) {
+        Ok(mut opened) => {
+            let mut bytes = [0u8; FILE_ROOM];
+            let came = intake::keep_from(&mut opened, &mut bytes);
+            file(rt, name.as_bytes(), &bytes[..came.kept])
+        }
+        Err(_) => {
+            write(rt, name.as_bytes())?;
+            write(rt, b" cannot be opened\n")
+        }
     }
-    let mut bytes = [0u8; FILE_ROOM];
-    let n = io::read_full(fd, &mut bytes);
-    libc::close(fd);
-    file(&name[..length], &bytes[..n]);
 }
 
-fn main() {
-    let n = os::arg_count();
-    let mut i = 1;
-    while i < n {
-        named(i);
-        i += 1;
+fn main(rt: HostRuntime) -> io::Result<()> {
+    for name in env::args(&rt)?.skip(1) {
+        named(&rt, name.as_str())?;
     }
+    Ok(())
 }

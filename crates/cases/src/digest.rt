@@ -3,6 +3,7 @@ ghost use Rattle.std.specs.Prelude.{◌<◌};
 
 use crate::print;
 use session::Session;
+use std::io;
 
 // The count, and the states, waiting counts and runs as bits.
 #[derive(Clone, Copy)]
@@ -74,25 +75,25 @@ fn most(bits: u64) -> usize {
     k
 }
 
-fn span(word: &[u8], bits: u64) {
-    print::named(word, least(bits));
-    print::named(b" to ", most(bits));
+fn span(rt: &impl Print, word: &[u8], bits: u64) -> io::Result<()> {
+    print::named(rt, word, least(bits))?;
+    print::named(rt, b" to ", most(bits))
 }
 
-fn figures(d: Digest) {
-    print::named(b" configurations ", d.count as usize);
+fn figures(rt: &impl Print, d: Digest) -> io::Result<()> {
+    print::named(rt, b" configurations ", d.count as usize)?;
     if d.count == 0 {
-        return;
+        return Ok(());
     }
-    span(b" states ", d.states);
-    span(b" waiting ", d.waiting);
-    span(b" runs ", d.runs);
+    span(rt, b" states ", d.states)?;
+    span(rt, b" waiting ", d.waiting)?;
+    span(rt, b" runs ", d.runs)
 }
 
 // The digest of a session, with its flag and the inputs that it holds.
-pub fn session(s: Session) {
-    figures(digested(&s.set));
+pub fn session(rt: &impl Print, s: Session) -> io::Result<()> {
+    figures(rt, digested(&s.set))?;
     let f = s.flag;
-    print::flag(f);
-    print::held(s);
+    print::flag(rt, f)?;
+    print::held(rt, s)
 }

@@ -33,8 +33,8 @@ mod script;
 mod view;
 
 // A script has at most 65,536 bytes.
-fn main() {
+fn main(rt: HostRuntime) -> std::io::Result<()> {
     let mut space = io::large_buffer();
-    let n = io::read_full(libc::STDIN_FILENO, &mut space);
-    script::run(&space[..n]);
+    let came = intake::keep_from(&mut rt.stdin(), &mut space);
+    script::run(&rt, &space[..came.kept])
 }

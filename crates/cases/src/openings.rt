@@ -2,6 +2,7 @@
 use crate::figures::Figures;
 use crate::{figures, print};
 use session::{Opened, Session};
+use std::io;
 
 // The bytes from which a line takes its rows.
 const SPACE: usize = 4096;
@@ -10,11 +11,11 @@ const SPACE: usize = 4096;
 const T: [u8; 6] = [1, 255, 255, 255, 0, 0];
 
 // The opening's session, with the outcome shown.
-fn shown(o: Opened) -> Session {
+fn shown(rt: &impl Print, o: Opened) -> io::Result<Session> {
     let t = o.test;
-    print::outcome(t, b" opened");
+    print::outcome(rt, t, b" opened")?;
     let s = o.session;
-    s
+    Ok(s)
 }
 
 // The rows with the byte at a place changed, if it lies in them.
@@ -38,17 +39,18 @@ fn marked(f: Figures) -> [u8; SPACE] {
 }
 
 // States, inputs, outputs, length of the rows, B and c; then the marks.
-pub fn open(f: Figures) -> Session {
+pub fn open(rt: &impl Print, f: Figures) -> io::Result<Session> {
     let rows = marked(f);
     let n = print::fitting(&rows, figures::at(f, 3, 0));
-    shown(session::open(
+    let o = session::open(
         &rows[..n],
         figures::at(f, 0, 0),
         figures::at(f, 1, 0),
         figures::at(f, 2, 0),
         figures::at(f, 4, 0),
         figures::at(f, 5, 0),
-    ))
+    );
+    shown(rt, o)
 }
 
 // The standard box's rows with the byte at a place changed, if it lies in them.
@@ -61,16 +63,17 @@ fn altered(at: usize, byte: u8) -> [u8; standard::LENGTH] {
 }
 
 // B and c; then a place with its byte.
-pub fn standard_box(f: Figures) -> Session {
+pub fn standard_box(rt: &impl Print, f: Figures) -> io::Result<Session> {
     let rows = altered(figures::at(f, 2, SPACE), figures::byte_at(f, 3));
-    shown(session::open(
+    let o = session::open(
         &rows,
         standard::STATES,
         standard::INPUTS,
         standard::OUTPUTS,
         figures::at(f, 0, 0),
         figures::at(f, 1, 0),
-    ))
+    );
+    shown(rt, o)
 }
 
 // T under these bounds.
@@ -79,6 +82,6 @@ pub fn polled(waiting: usize, losses: usize) -> Opened {
 }
 
 // T under B and c.
-pub fn table(f: Figures) -> Session {
-    shown(polled(figures::at(f, 0, 0), figures::at(f, 1, 0)))
+pub fn table(rt: &impl Print, f: Figures) -> io::Result<Session> {
+    shown(rt, polled(figures::at(f, 0, 0), figures::at(f, 1, 0)))
 }

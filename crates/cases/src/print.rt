@@ -2,35 +2,36 @@
 ghost use Rattle.io.specs.Counts.{IsPrefixLen};
 
 use crate::digest;
-use libc::STDOUT_FILENO;
 use session::{Flag, Session};
+use std::io;
 use table::{Refusal, Test};
 
-pub fn text(words: &[u8]) {
-    io::write_all(STDOUT_FILENO, words);
+pub fn text(rt: &impl Print, words: &[u8]) -> io::Result<()> {
+    rt.write_all(words)
 }
 
 // A word, and the number that it names.
-pub fn named(word: &[u8], n: usize) {
-    text(word);
-    io::print_decimal(STDOUT_FILENO, n as u64);
+pub fn named(rt: &impl Print, word: &[u8], n: usize) -> io::Result<()> {
+    text(rt, word)?;
+    rt.print(n)
 }
 
 // A refusal's number and place, and for number 4 the second place.
-pub fn refused(r: Refusal) {
+pub fn refused(rt: &impl Print, r: Refusal) -> io::Result<()> {
     let t = table::tell(r);
-    named(b" refused ", t.number as usize);
-    named(b" ", t.place);
+    named(rt, b" refused ", t.number as usize)?;
+    named(rt, b" ", t.place)?;
     if t.number == 4 {
-        named(b" ", t.second);
+        named(rt, b" ", t.second)?;
     }
+    Ok(())
 }
 
 // The words for a test that passed, or the refusal.
-pub fn outcome(t: Test, passed: &[u8]) {
+pub fn outcome(rt: &impl Print, t: Test, passed: &[u8]) -> io::Result<()> {
     match t {
-        Test::Passed => text(passed),
-        Test::Refused(r) => refused(r),
+        Test::Passed => text(rt, passed),
+        Test::Refused(r) => refused(rt, r),
     }
 }
 
@@ -41,76 +42,79 @@ pub fn fitting(b: &[u8], n: usize) -> usize
     if n < b.len() { n } else { b.len() }
 }
 
-pub fn byte(b: u8) {
-    named(b" ", b as usize);
+pub fn byte(rt: &impl Print, b: u8) -> io::Result<()> {
+    named(rt, b" ", b as usize)
 }
 
-pub fn bytes(b: &[u8]) {
+pub fn bytes(rt: &impl Print, b: &[u8]) -> io::Result<()> {
     let mut i = 0;
     while i < b.len() {
-        byte(b[i]);
+        byte(rt, b[i])?;
         i += 1;
     }
+    Ok(())
 }
 
 // The n bytes from a place on, or as many as there are.
-pub fn part(b: &[u8], from: usize, n: usize) {
+pub fn part(rt: &impl Print, b: &[u8], from: usize, n: usize) -> io::Result<()> {
     let start = fitting(b, from);
     let rest = &b[start..];
     let count = fitting(rest, n);
-    bytes(&rest[..count]);
+    bytes(rt, &rest[..count])
 }
 
-fn configuration(s: usize, w: usize, r: usize) {
-    named(b" (", s);
-    named(b",", w);
-    named(b",", r);
-    text(b")");
+fn configuration(rt: &impl Print, s: usize, w: usize, r: usize) -> io::Result<()> {
+    named(rt, b" (", s)?;
+    named(rt, b",", w)?;
+    named(rt, b",", r)?;
+    text(rt, b")")
 }
 
 // The configurations of w waiting and a run of r, by their states.
-fn word(states: u64, w: usize, r: usize) {
+fn word(rt: &impl Print, states: u64, w: usize, r: usize) -> io::Result<()> {
     let mut s: usize = 0;
     while s < 64 {
         if (states >> s) % 2 == 1 {
-            configuration(s, w, r);
+            configuration(rt, s, w, r)?;
         }
         s += 1;
     }
+    Ok(())
 }
 
 // All configurations, in order of waiting, then run, then state.
-fn configurations(set: &[u64; 264]) {
+fn configurations(rt: &impl Print, set: &[u64; 264]) -> io::Result<()> {
     let mut k: usize = 0;
     while k < 264 {
-        word(set[k], k / 8, k % 8);
+        word(rt, set[k], k / 8, k % 8)?;
         k += 1;
     }
+    Ok(())
 }
 
-pub fn flag(f: Flag) {
+pub fn flag(rt: &impl Print, f: Flag) -> io::Result<()> {
     match f {
-        Flag::None => text(b" flag none"),
-        Flag::At(place) => named(b" flag ", place),
+        Flag::None => text(rt, b" flag none"),
+        Flag::At(place) => named(rt, b" flag ", place),
     }
 }
 
 // The inputs that a session holds: B of them, or all seen if fewer.
-pub fn held(s: Session) {
-    text(b" held");
+pub fn held(rt: &impl Print, s: Session) -> io::Result<()> {
+    text(rt, b" held")?;
     let held = s.held;
     let n = fitting(&held, s.waiting as usize);
-    part(&held[..n], 0, s.arrived);
+    part(rt, &held[..n], 0, s.arrived)
 }
 
 // A session's configurations, counts and flag.
-pub fn session(s: Session) {
+pub fn session(rt: &impl Print, s: Session) -> io::Result<()> {
     if digest::empty(&s.set) {
-        text(b" empty");
+        text(rt, b" empty")?;
     }
-    configurations(&s.set);
-    named(b" events ", s.events);
-    named(b" inputs ", s.arrived);
+    configurations(rt, &s.set)?;
+    named(rt, b" events ", s.events)?;
+    named(rt, b" inputs ", s.arrived)?;
     let f = s.flag;
-    flag(f);
+    flag(rt, f)
 }

@@ -2,7 +2,7 @@
 use crate::figures::Figures;
 use crate::{figures, print};
 use run::Ran;
-use table::Test;
+use std::io;
 
 // The most bytes of results that a line may ask for.
 const ROOM: usize = 128;
@@ -14,16 +14,16 @@ const LONGEST: usize = 1048577;
 const ROWS: [u8; 8] = [1, 255, 255, 255, 0, 0, 255, 255];
 
 // The flag or the refusal, and the buffer.
-fn shown(r: Ran, out: &[u8]) {
+fn shown(rt: &impl Print, r: Ran, out: &[u8]) -> io::Result<()> {
     let t = r.test;
-    print::outcome(t, b" ran");
+    print::outcome(rt, t, b" ran")?;
     let f = r.flag;
-    print::flag(f);
-    print::bytes(out);
+    print::flag(rt, f)?;
+    print::bytes(rt, out)
 }
 
 // States, inputs, outputs, length of the rows, B and c are the line's.
-fn filled(f: Figures, trace: &[u8], out: &mut [u8]) {
+fn filled(rt: &impl Print, f: Figures, trace: &[u8], out: &mut [u8]) -> io::Result<()> {
     let rows = ROWS;
     let n = print::fitting(&rows, figures::at(f, 3, 0));
     let r = run::run(
@@ -36,14 +36,14 @@ fn filled(f: Figures, trace: &[u8], out: &mut [u8]) {
         trace,
         &mut *out,
     );
-    shown(r, &*out);
+    shown(rt, r, &*out)
 }
 
 // The next is the buffer's length; then comes the trace.
-fn ran(f: Figures, trace: &[u8]) {
+fn ran(rt: &impl Print, f: Figures, trace: &[u8]) -> io::Result<()> {
     let mut space = [170u8; ROOM];
     let room = print::fitting(&space, figures::at(f, 6, 0));
-    filled(f, trace, &mut space[..room]);
+    filled(rt, f, trace, &mut space[..room])
 }
 
 // The numbers of the line from the eighth on.
@@ -58,11 +58,11 @@ fn events(f: Figures) -> [u8; 64] {
 }
 
 // The trace is written out.
-pub fn whole(f: Figures) {
+pub fn whole(rt: &impl Print, f: Figures) -> io::Result<()> {
     let trace = events(f);
     let count = if f.count < 7 { 0 } else { f.count - 7 };
     let n = print::fitting(&trace, count);
-    ran(f, &trace[..n]);
+    ran(rt, f, &trace[..n])
 }
 
 fn repeated(byte: u8) -> [u8; LONGEST] {
@@ -70,8 +70,8 @@ fn repeated(byte: u8) -> [u8; LONGEST] {
 }
 
 // The trace is one event, many times.
-pub fn long(f: Figures) {
+pub fn long(rt: &impl Print, f: Figures) -> io::Result<()> {
     let trace = repeated(figures::byte_at(f, 8));
     let n = print::fitting(&trace, figures::at(f, 7, 0));
-    ran(f, &trace[..n]);
+    ran(rt, f, &trace[..n])
 }

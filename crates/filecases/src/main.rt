@@ -5,7 +5,8 @@
 ghost use Rattle.std.specs.Prelude.{◌≤◌};
 
 use house::{Contents, Reading, Source};
-use libc::STDOUT_FILENO;
+use std::rt::Files;
+use std::{env, fs, io};
 use table::Told;
 
 // More than the longest house file, so that a file that is too long is read whole.
@@ -40,19 +41,19 @@ fn digest(buffer: &[u8]) -> u64 {
     sum
 }
 
-fn write(text: &[u8]) {
-    io::write_all(STDOUT_FILENO, text);
+fn write(rt: &impl Print, text: &[u8]) -> io::Result<()> {
+    rt.write_all(text)
 }
 
-fn number(n: u64) {
-    write(b" ");
-    io::print_decimal(STDOUT_FILENO, n);
+fn number(rt: &impl Print, n: u64) -> io::Result<()> {
+    write(rt, b" ")?;
+    rt.print(n)
 }
 
-fn figure(name: &[u8], n: u64) {
-    write(b" ");
-    write(name);
-    number(n);
+fn figure(rt: &impl Print, name: &[u8], n: u64) -> io::Result<()> {
+    write(rt, b" ")?;
+    write(rt, name)?;
+    number(rt, n)
 }
 
 // The numbers with two places: 4, row and column; 20 to 23, block and offset.
@@ -60,12 +61,13 @@ fn has_second(number: u8) -> bool {
     number == 4 || (20 <= number && number <= 23)
 }
 
-fn refused(told: Told) {
-    figure(b"refused", told.number as u64);
-    number(told.place as u64);
+fn refused(rt: &impl Print, told: Told) -> io::Result<()> {
+    figure(rt, b"refused", told.number as u64)?;
+    number(rt, told.place as u64)?;
     if has_second(told.number) {
-        number(told.second as u64);
+        number(rt, told.second as u64)?;
     }
+    Ok(())
 }
 
 fn source(source: Source) -> u64 {
@@ -75,37 +77,37 @@ fn source(source: Source) -> u64 {
     }
 }
 
-fn bounds(c: Contents) {
-    figure(b"B", c.waiting as u64);
-    figure(b"c", c.losses as u64);
+fn bounds(rt: &impl Print, c: Contents) -> io::Result<()> {
+    figure(rt, b"B", c.waiting as u64)?;
+    figure(rt, b"c", c.losses as u64)
 }
 
-fn good(c: Contents) {
-    figure(b"states", c.states as u64);
-    figure(b"inputs", c.inputs as u64);
-    figure(b"outputs", c.outputs as u64);
-    bounds(c);
+fn good(rt: &impl Print, c: Contents) -> io::Result<()> {
+    figure(rt, b"states", c.states as u64)?;
+    figure(rt, b"inputs", c.inputs as u64)?;
+    figure(rt, b"outputs", c.outputs as u64)?;
+    bounds(rt, c)?;
     let from = c.source;
-    figure(b"source", source(from));
-    figure(b"rows", c.rows as u64);
-    figure(b"events", c.events as u64);
+    figure(rt, b"source", source(from))?;
+    figure(rt, b"rows", c.rows as u64)?;
+    figure(rt, b"events", c.events as u64)
 }
 
-fn outcome(reading: Reading) {
+fn outcome(rt: &impl Print, reading: Reading) -> io::Result<()> {
     match reading {
-        Reading::Good(c) => good(c),
-        Reading::Refused(r) => refused(house::tell(r)),
+        Reading::Good(c) => good(rt, c),
+        Reading::Refused(r) => refused(rt, house::tell(r)),
     }
 }
 
 // Reads the file into these buffers, and writes the rest of the line.
-fn read(file: &[u8], rows: &mut [u8], events: &mut [u8]) -> Reading {
+fn read(rt: &impl Print, file: &[u8], rows: &mut [u8], events: &mut [u8]) -> io::Result<Reading> {
     let reading = house::read(file, rows, events);
-    outcome(reading);
-    figure(b"digests", digest(rows));
-    number(digest(events));
-    write(b"\n");
-    reading
+    outcome(rt, reading)?;
+    figure(rt, b"digests", digest(rows))?;
+    number(rt, digest(events))?;
+    write(rt, b"\n")?;
+    Ok(reading)
 }
 
 fn least(a: usize, b: usize) -> usize
@@ -116,61 +118,60 @@ fn least(a: usize, b: usize) -> usize
 }
 
 // Reads the file into buffers of these lengths, which the line tells.
-fn within(name: &[u8], file: &[u8], rows: usize, events: usize) {
+fn within(rt: &impl Print, name: &[u8], file: &[u8], rows: usize, events: usize) -> io::Result<()> {
     let mut row_space = [MARK; ROW_ROOM];
     let mut event_space = [MARK; EVENT_ROOM];
-    write(name);
-    figure(b"in", rows as u64);
-    number(events as u64);
+    write(rt, name)?;
+    figure(rt, b"in", rows as u64)?;
+    number(rt, events as u64)?;
     let r = least(rows, ROW_ROOM);
     let e = least(events, EVENT_ROOM);
-    read(file, &mut row_space[..r], &mut event_space[..e]);
+    read(rt, file, &mut row_space[..r], &mut event_space[..e])?;
+    Ok(())
 }
 
 // A good file again: in buffers that are just long enough, and in such of which one is too short by a byte.
-fn tight(name: &[u8], file: &[u8], rows: usize, events: usize) {
-    within(name, file, rows, events);
+fn tight(rt: &impl Print, name: &[u8], file: &[u8], rows: usize, events: usize) -> io::Result<()> {
+    within(rt, name, file, rows, events)?;
     if rows > 0 {
-        within(name, file, rows - 1, events);
+        within(rt, name, file, rows - 1, events)?;
     }
     if events > 0 {
-        within(name, file, rows, events - 1);
+        within(rt, name, file, rows, events - 1)?;
     }
+    Ok(())
 }
 
 // All lines of one file. Number 10 comes last of all, so a file that is refused is refused alike with no buffers at all.
-fn file(name: &[u8], file: &[u8]) {
+fn file(rt: &impl Print, name: &[u8], file: &[u8]) -> io::Result<()> {
     let mut rows = [MARK; ROW_ROOM];
     let mut events = [MARK; EVENT_ROOM];
-    write(name);
-    let reading = read(file, &mut rows, &mut events);
+    write(rt, name)?;
+    let reading = read(rt, file, &mut rows, &mut events)?;
     if let Reading::Good(c) = reading {
-        tight(name, file, c.rows, c.events);
+        tight(rt, name, file, c.rows, c.events)?;
     }
-    within(name, file, 0, 0);
+    within(rt, name, file, 0, 0)
 }
 
-// The file that argument i names.
-fn named(i: usize) {
-    let mut name = io::buffer();
-    let length = os::arg(i, &mut name);
-    let fd = os::open_read(&name[..length]);
-    if fd < 0 {
-        write(&name[..length]);
-        write(b" cannot be opened\n");
-        return;
+// The file of this name.
+fn named(rt: &(impl Files + Print), name: &str) -> io::Result<()> {
+    match fs::open(rt, name) {
+        Ok(mut opened) => {
+            let mut bytes = [0u8; FILE_ROOM];
+            let came = intake::keep_from(&mut opened, &mut bytes);
+            file(rt, name.as_bytes(), &bytes[..came.kept])
+        }
+        Err(_) => {
+            write(rt, name.as_bytes())?;
+            write(rt, b" cannot be opened\n")
+        }
     }
-    let mut bytes = [0u8; FILE_ROOM];
-    let n = io::read_full(fd, &mut bytes);
-    libc::close(fd);
-    file(&name[..length], &bytes[..n]);
 }
 
-fn main() {
-    let n = os::arg_count();
-    let mut i = 1;
-    while i < n {
-        named(i);
-        i += 1;
+fn main(rt: HostRuntime) -> io::Result<()> {
+    for name in env::args(&rt)?.skip(1) {
+        named(&rt, name.as_str())?;
     }
+    Ok(())
 }

@@ -1,44 +1,40 @@
-// Lists each house file that an argument names, from an opened descriptor to standard output: first its name, then the listing, then what
-// `lister::list` answered.
+// Lists each house file that an argument names, from the opened file to standard output: first its name, then the listing, then what
+// `lister::list_from` answered.
 #![tactic(auto)]
 
-use libc::STDOUT_FILENO;
 use lister::Outcome;
+use std::rt::Files;
+use std::{env, fs, io};
 
-fn write(text: &[u8]) {
-    io::write_all(STDOUT_FILENO, text);
+fn write(rt: &impl Print, text: &[u8]) -> io::Result<()> {
+    rt.write_all(text)
 }
 
-fn answer(outcome: Outcome) {
+fn answer(rt: &impl Print, outcome: Outcome) -> io::Result<()> {
     match outcome {
-        Outcome::Consistent => write(b"answer consistent\n"),
-        Outcome::Flagged => write(b"answer flagged\n"),
-        Outcome::Refused => write(b"answer refused\n"),
-        Outcome::Broken => write(b"answer broken\n"),
+        Outcome::Consistent => write(rt, b"answer consistent\n"),
+        Outcome::Flagged => write(rt, b"answer flagged\n"),
+        Outcome::Refused => write(rt, b"answer refused\n"),
+        Outcome::Broken => write(rt, b"answer broken\n"),
     }
 }
 
-// The file that argument i names.
-fn named(i: usize) {
-    let mut name = io::buffer();
-    let length = os::arg(i, &mut name);
-    write(&name[..length]);
-    write(b"\n");
-    let fd = os::open_read(&name[..length]);
-    if fd < 0 {
-        write(b"cannot be opened\n");
-        return;
+// The file of this name.
+fn named(rt: &(impl Files + Print), name: &str) -> io::Result<()> {
+    write(rt, name.as_bytes())?;
+    write(rt, b"\n")?;
+    match fs::open(rt, name) {
+        Ok(mut file) => {
+            let outcome = lister::list_from(&mut file, &mut io::writer(rt));
+            answer(rt, outcome)
+        }
+        Err(_) => write(rt, b"cannot be opened\n"),
     }
-    let outcome = lister::list(fd, STDOUT_FILENO);
-    libc::close(fd);
-    answer(outcome);
 }
 
-fn main() {
-    let n = os::arg_count();
-    let mut i = 1;
-    while i < n {
-        named(i);
-        i += 1;
+fn main(rt: HostRuntime) -> io::Result<()> {
+    for name in env::args(&rt)?.skip(1) {
+        named(&rt, name.as_str())?;
     }
+    Ok(())
 }
