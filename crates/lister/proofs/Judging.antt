@@ -2,7 +2,7 @@
 use mathlib.Core.Path.{◌≡◌, refl, sym, ◌∙◌, ap}
 use mathlib.Core.List.{List}
 use mathlib.Core.Bool.{Bool, true, false}
-use Prim.Native.Nat.{ℕ, ◌*◌, ◌≤◌, ◌<◌}
+use Prim.Native.Nat.{ℕ, ◌*◌, ◌≤◌}
 use native.Mathlib.Omega.{arith}
 use lib.Dec.{leb}
 use lib.ListN.{length, take}
@@ -40,7 +40,7 @@ use Rattle.house.specs.declared.answer.Verdict.TheVariants as verdict
 use Rattle.house.proofs.Laws.{what_is_held, what_is_good, counts_held}
 use Rattle.lister.specs.declared.judge.Judged.{Judged}
 use Rattle.lister.specs.declared.judge.Judged.TheVariants.{Refused}
-use Rattle.lister.specs.Judging.{row_room, rows_meant, judged, RunsAs, Follows, RunsFile, Judges, refused, cramped, listed}
+use Rattle.lister.specs.Judging.{row_room, rows_meant, judged, RunsAs, Follows, Judges, refused, cramped, listed}
 
 -- the run of a trace
 pub followed : (c : Contents) (rows before after : List ℕ) {trace trace' : List ℕ} (r : Ran) {t : Test} → trace ≡ trace'

@@ -1,6 +1,5 @@
 -- `list_file` meets its contract. Assumes nothing.
 use mathlib.Core.Path.{ap, ◌∙◌}
-use borrow.Author.Rules.{rules}
 use Rattle.lister.specs.Listing.{unless_broken}
 use Rattle.lister.proofs.Built.{few_listed, comes}
 use Rattle.lister.proofs.list_file.Goals as goal

@@ -1,6 +1,4 @@
 use Rattle.lister.proofs.Judging.{followed}
-use native.Mathlib.Omega.{arith}
-use borrow.Author.Rules.{rules}
 use Rattle.lister.proofs.judge.follow.Goals as goal
 
 pub returns-in-Refused : goal.returns-in-Refused

@@ -1,7 +1,5 @@
 use mathlib.Core.Path.{◌∙◌}
 use Rattle.lister.proofs.Judging.{followed_by}
-use native.Mathlib.Omega.{arith}
-use borrow.Author.Rules.{rules}
 use Rattle.lister.proofs.judge.follow_source.Goals as goal
 
 pub returns : goal.returns

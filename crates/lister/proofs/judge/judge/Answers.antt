@@ -1,8 +1,6 @@
 use Prim.Native.Nat.{ℕ}
 use lib.ListN.{length-replicate}
 use Rattle.lister.proofs.Judging.{unread, read_then}
-use native.Mathlib.Omega.{arith}
-use borrow.Author.Rules.{rules}
 use Rattle.lister.proofs.judge.judge.Goals as goal
 
 pub returns-in-Refused : goal.returns-in-Refused

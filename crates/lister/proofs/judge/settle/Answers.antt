@@ -3,8 +3,6 @@ use lib.ListN.{take}
 use Rattle.house.specs.declared.answer.Source.{Source}
 use Rattle.lister.specs.Judging.{rows_meant}
 use Rattle.lister.proofs.Judging.{settled}
-use native.Mathlib.Omega.{arith}
-use borrow.Author.Rules.{rules}
 use Rattle.lister.proofs.judge.settle.Goals as goal
 
 pub returns-in-Rows : goal.returns-in-Rows

@@ -1,6 +1,5 @@
 -- `line` meets its contract. Assumes nothing.
 use mathlib.Core.Path.{◌∙◌}
-use borrow.Author.Rules.{rules}
 use Rattle.lister.proofs.Built.{line_same}
 use Rattle.lister.proofs.pieces.line.Goals as goal
 

@@ -1,6 +1,5 @@
 -- `of_refusal` meets its contract. Assumes nothing.
 use mathlib.Core.Path.{ap, ◌∙◌}
-use borrow.Author.Rules.{rules}
 use Rattle.house.specs.Refusals.{told}
 use Rattle.lines.specs.Lines.{refused_line}
 use Rattle.lines.specs.Texts.{text_of}

@@ -1,6 +1,5 @@
 -- `of_run` meets its contract: the header, a line, or the last line. Assumes nothing.
 use borrow.Author.Tests.{eq-eqb, ne_eqb, le-leb, lt-leb}
-use borrow.Author.Rules.{rules}
 use Rattle.lister.proofs.pieces.of_run.Goals as goal
 
 pub returns-then-k-eq0 : goal.returns-then-k-eq0

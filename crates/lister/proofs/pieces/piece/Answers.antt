@@ -1,6 +1,5 @@
 -- `piece` meets its contract. What is lent is bytes, so no piece is cut short. Assumes nothing.
 use native.Mathlib.Omega.{arith}
-use borrow.Author.Rules.{rules}
 use Rattle.lister.proofs.Joined.{refused_piece, listed_piece}
 use Rattle.lister.proofs.pieces.piece.Goals as goal
 

@@ -1,7 +1,6 @@
 -- `pieces` meets its contract: a listing has so few events that the sum fits. Assumes nothing.
 use Prim.Native.Nat.{◌≤◌}
 use native.Mathlib.Omega.{arith}
-use borrow.Author.Rules.{rules}
 use Rattle.lister.specs.Listing.{event_room}
 use Rattle.lister.proofs.pieces.pieces.Goals as goal
 

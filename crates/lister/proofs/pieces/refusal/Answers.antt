@@ -1,6 +1,5 @@
 -- `pieces::refusal` meets its contract. Assumes nothing.
 use mathlib.Core.Path.{ap, ◌∙◌}
-use borrow.Author.Rules.{rules}
 use Rattle.house.specs.Refusals.{told}
 use Rattle.lister.proofs.pieces.refusal.Goals as goal
 

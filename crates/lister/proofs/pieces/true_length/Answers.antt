@@ -1,5 +1,4 @@
 -- `true_length` meets its contract, case by case. Assumes nothing.
-use borrow.Author.Rules.{rules}
 use Rattle.lister.proofs.pieces.true_length.Goals as goal
 
 pub returns-in-Length : goal.returns-in-Length

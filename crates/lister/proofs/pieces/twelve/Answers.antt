@@ -4,7 +4,6 @@ use Prim.Native.Nat.{◌+◌, ◌-◌, ◌*◌, ◌/◌}
 use native.Mathlib.Omega.{arith}
 use lib.ListN.{length}
 use borrow.Author.Tests.{lt-ltb, le-ltb}
-use borrow.Author.Rules.{rules}
 use Rattle.lister.proofs.pieces.twelve.Goals as goal
 
 pub returns-then-k-results : goal.returns-then-k-results

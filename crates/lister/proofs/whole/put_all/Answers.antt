@@ -1,12 +1,9 @@
 -- `whole::put_all` meets its contract: the pieces passed stand at the start. Assumes nothing.
 use mathlib.Core.Path.{◌≡◌, refl, sym, ap, ◌∙◌}
-use Prim.Native.Nat.{◌-◌, ◌*◌, ◌≤◌}
 use native.Mathlib.Omega.{arith}
 use lib.ListN.{length}
 use borrow.Author.Rules.{rules}
-use Rattle.lent.specs.Lent.{front}
-use Rattle.lines.specs.Texts.{most_text}
-use Rattle.lister.specs.Listing.{joined, piece_of}
+use Rattle.lister.specs.Listing.{piece_of}
 use Rattle.lister.proofs.Joined.{joined_none}
 use Rattle.lister.proofs.Putting.{used_all, length_next, put_next}
 use Rattle.lister.proofs.whole.put_all.Goals as goal

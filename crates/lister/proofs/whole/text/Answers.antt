@@ -1,7 +1,6 @@
 -- `whole::text` meets its contract. Assumes nothing.
 use native.Mathlib.Omega.{arith}
 use borrow.Author.Tests.{lt-leb, le-leb}
-use borrow.Author.Rules.{rules}
 use Rattle.lister.specs.Putting.{short}
 use Rattle.lister.proofs.Built.{few_listed}
 use Rattle.lister.proofs.Putting.{few_pieces, texts_by}
