@@ -2,7 +2,7 @@ use Rattle.std.proofs.Common.{◌-◌, ◌≤◌, rules}
 use Rattle.cases.proofs.print.configurations.Given as goal
 
 abbrev pub invariant-loop-k : goal.invariant-loop-k
-invariant-loop-k l = l.k ≤ 264
+invariant-loop-k g l = l.k ≤ 264
 
 abbrev pub decreases-loop-k : goal.decreases-loop-k
-decreases-loop-k l = 264 - l.k
+decreases-loop-k g l = 264 - l.k

@@ -2,7 +2,7 @@ use Rattle.std.proofs.Common.{◌-◌, ◌≤◌, rules}
 use Rattle.cases.proofs.print.word.Given as goal
 
 abbrev pub invariant-loop-s : goal.invariant-loop-s
-invariant-loop-s l = l.s ≤ 64
+invariant-loop-s g l = l.s ≤ 64
 
 abbrev pub decreases-loop-s : goal.decreases-loop-s
-decreases-loop-s l = 64 - l.s
+decreases-loop-s g l = 64 - l.s
