@@ -1,5 +1,6 @@
-// A descriptor by its number, as a reader. The kit's `io` reads one until a buffer is full, the input ends or a read fails, and does not
-// tell the last two apart; that the system noted an error does.
+// A descriptor by its number, as a reader: what the system answered, call by call. The kit's `io` reads one until a buffer is full, the
+// input ends or a read fails, and does not tell the last two apart; that the system noted an error does. A number from 0 up that is not open
+// for reading is told as an input that ends at once.
 use std::io::{Error, ErrorKind, Read, Result};
 use std_io::io::last_error;
 
@@ -31,7 +32,7 @@ impl Descriptor {
     }
 }
 
-// Leaves one error noted that no read of an open descriptor notes.
+// Leaves an error noted that no read of a descriptor that is open for reading notes.
 fn note() {
     let mut none = [0u8; 1];
     io::read_full(-1, &mut none);

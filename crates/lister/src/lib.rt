@@ -1,7 +1,7 @@
-// Lists a house file: reads it, runs its trace, and writes the listing piece by piece, a line each, to a descriptor or into memory that is
-// lent. No input, however damaged, stops it; a failed read or write ends it. Which bytes a piece is, and how many there are,
+// Lists a house file: reads it, runs its trace, and writes the listing piece by piece, a line each, to a writer, as a descriptor is, or into
+// memory that is lent. No input, however damaged, stops it; a failed read or write ends it. Which bytes a piece is, and how many there are,
 // specs/Listing.antt says; only `put`, `say`, `say_all`, `list_file`, `list_from` and `list` read or write, and of what they write no
-// contract can speak.
+// contract speaks.
 #![tactic(auto)]
 
 ghost use Rattle.std.specs.Prelude.{◌≡◌};

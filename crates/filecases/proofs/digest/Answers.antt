@@ -1,9 +1,7 @@
 -- `digest` is safe and ends: the sum and the weight stay below the modulus. Assumes nothing.
-use Prim.Native.Nat.{ℕ, ◌+◌, ◌*◌, ◌%◌, ◌-◌, ◌≤◌, ◌<◌}
-use lib.ListN.{length}
+use Prim.Native.Nat.{ℕ, ◌+◌, ◌*◌, ◌%◌, ◌≤◌}
 use native.Mathlib.Nat.{mul-le-mul}
 use native.Mathlib.Omega.{arith}
-use borrow.Author.Rules.{rules}
 use Rattle.filecases.proofs.digest.Goals as goal
 
 small : (w : ℕ) {x : ℕ} → x ≤ 255 → w % 65521 * x ≤ 16707600

@@ -1,4 +1,4 @@
-use Rattle.std.proofs.Common.{◌-◌, ◌≤◌, rules}
+use Rattle.std.proofs.Common.{◌-◌, ◌≤◌}
 use Rattle.cases.proofs.print.word.Given as goal
 
 abbrev pub invariant-loop-s : goal.invariant-loop-s
