@@ -25,6 +25,25 @@ use Rattle.monitor.specs.Feed.{Shows, MovedOn, FedTo}
 use Rattle.monitor.proofs.Moves.{shifted_contained, shifted_arrived, sent_contained, sent_sent, fed_words}
 use Rattle.monitor.proofs.Lines.{shows_first, shown_take}
 
+-- a session whose set and held inputs have moved on, and then the rest of it
+pub moved_from : (s : Session) (set held : List ℕ) (arrived : ℕ) (r : Session)
+    → MovedOn (record { set = set; events = s.events; arrived = s.arrived; flag = s.flag; rows = s.rows; held = held; states = s.states; inputs = s.inputs; outputs = s.outputs; waiting = s.waiting; losses = s.losses }) set held arrived r
+    → MovedOn s set held arrived r
+moved_from s set held arrived r m =
+    record {
+      states = m.states;
+      inputs = m.inputs;
+      outputs = m.outputs;
+      rows = m.rows;
+      waiting = m.waiting;
+      losses = m.losses;
+      words = m.words;
+      bytes = m.bytes;
+      events = m.events;
+      inputs_seen = m.inputs_seen;
+      flag = m.flag;
+    }
+
 module _ (s : Session) (sound : Sound s) (held_long : length s.held ≡ 32) where
   T : Table
   T = table_in s

@@ -26,28 +26,16 @@ pub(crate) fn flagged(flag: Flag, found: bool, event: usize) -> Flag
     }
 }
 
-// The session one event later, with this set, these held inputs and this count of inputs.
-fn moved_on(s: Session, set: [u64; 264], held: [u8; 32], arrived: usize) -> Session
-    requires { s.events < most_events }
-    ensures { MovedOn s set held arrived result }
+// The session one event later: its set and its held inputs have moved on already; its flag, its count of events and that of inputs follow.
+fn moved_on(s: &mut Session, arrived: usize)
+    requires { s.old.events < most_events }
+    ensures { MovedOn s.old s.old.set s.old.held arrived s.new }
 {
-    let found = !states::empty(&set);
+    let found = !states::empty(&s.set);
     let before = s.flag;
-    let flag = flagged(before, found, s.events);
-    let rows = s.rows;
-    Session {
-        states: s.states,
-        inputs: s.inputs,
-        outputs: s.outputs,
-        rows,
-        waiting: s.waiting,
-        losses: s.losses,
-        set,
-        held,
-        events: s.events + 1,
-        arrived,
-        flag,
-    }
+    s.flag = flagged(before, found, s.events);
+    s.events += 1;
+    s.arrived = arrived;
 }
 
 // How many inputs are held: B of them, or all seen if fewer.
@@ -62,45 +50,51 @@ fn held_count(waiting: u8, arrived: usize) -> usize
 }
 
 // Input a comes, and then any number of takes and losses.
-fn arrive(s: Session, a: u8) -> Session
-    requires { Sound s × (s.events < most_events) × (a < s.inputs) }
-    ensures { FedTo s a result }
+fn arrive(s: &mut Session, a: u8)
+    requires { Sound s.old × (s.old.events < most_events) × (a < s.old.inputs) }
+    ensures { FedTo s.old a s.new }
 {
     let most = s.waiting as usize;
     let n = held_count(s.waiting, s.arrived);
-    let mut held = s.held;
-    let mut set = s.set;
-    event::arrived(
-        &mut set,
-        &mut held,
-        &s.rows,
-        s.inputs + s.outputs,
-        most,
-        s.losses as usize,
-        n,
-        a,
-    );
-    moved_on(s, set, held, s.arrived + 1)
+    let width = s.inputs + s.outputs;
+    let losses = s.losses as usize;
+    event::arrived(&mut s.set, &mut s.held, &s.rows, width, most, losses, n, a);
+    let seen = s.arrived + 1;
+    moved_on(&mut *s, seen);
 }
 
 // Output a is seen, and then any number of takes and losses.
-fn send(s: Session, a: u8) -> Session
-    requires { Sound s × (s.events < most_events) × (a < s.outputs) }
-    ensures { FedTo s (128 + a) result }
+fn send(s: &mut Session, a: u8)
+    requires { Sound s.old × (s.old.events < most_events) × (a < s.old.outputs) }
+    ensures { FedTo s.old (128 + a) s.new }
 {
     let n = held_count(s.waiting, s.arrived);
-    let mut set = s.set;
-    event::sent(
-        &mut set,
-        &s.held,
-        &s.rows,
-        s.inputs + s.outputs,
-        s.inputs + a,
-        s.losses as usize,
-        n,
-    );
-    let held = s.held;
-    moved_on(s, set, held, s.arrived)
+    let width = s.inputs + s.outputs;
+    let column = s.inputs + a;
+    let losses = s.losses as usize;
+    event::sent(&mut s.set, &s.held, &s.rows, width, column, losses, n);
+    let seen = s.arrived;
+    moved_on(&mut *s, seen);
+}
+
+// The event byte comes to the session where it lies. Where it is refused, the session stays as it was.
+pub fn advance(s: &mut Session, byte: u8) -> Test
+    ensures { Feeds s.old byte (record { test = result; session = s.new }) }
+{
+    if !sound::is_sound(&*s) {
+        return Test::Refused(Refusal::Unsound);
+    }
+    let events = s.events;
+    if MOST_EVENTS <= events {
+        return Test::Refused(Refusal::Events(events + 1));
+    }
+    let symbol = table::event(byte, s.inputs, s.outputs);
+    match symbol {
+        Symbol::Invalid => return Test::Refused(Refusal::Event(events)),
+        Symbol::Input(a) => arrive(&mut *s, a),
+        Symbol::Output(a) => send(&mut *s, a),
+    }
+    Test::Passed
 }
 
 // The session after the event byte. Any session may come and any byte; a session that is not sound, is full, or has no such event is
@@ -108,38 +102,7 @@ fn send(s: Session, a: u8) -> Session
 pub fn feed(s: Session, byte: u8) -> Fed
     ensures { Feeds s byte result }
 {
-    if !sound::sound(s) {
-        return Fed {
-            test: Test::Refused(Refusal::Unsound),
-            session: s,
-        };
-    }
-    let events = s.events;
-    if MOST_EVENTS <= events {
-        return Fed {
-            test: Test::Refused(Refusal::Events(events + 1)),
-            session: s,
-        };
-    }
-    let symbol = table::event(byte, s.inputs, s.outputs);
-    match symbol {
-        Symbol::Invalid => Fed {
-            test: Test::Refused(Refusal::Event(events)),
-            session: s,
-        },
-        Symbol::Input(a) => {
-            let session = arrive(s, a);
-            Fed {
-                test: Test::Passed,
-                session,
-            }
-        }
-        Symbol::Output(a) => {
-            let session = send(s, a);
-            Fed {
-                test: Test::Passed,
-                session,
-            }
-        }
-    }
+    let mut session = s;
+    let test = advance(&mut session, byte);
+    Fed { test, session }
 }

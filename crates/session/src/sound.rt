@@ -216,8 +216,9 @@ fn flag_fits(set: &[u64; 264], flag: Flag, events: usize) -> bool
     }
 }
 
-pub fn sound(s: Session) -> bool
-    ensures { Decides result (Sound s) }
+// A session is tested where it lies.
+pub fn is_sound(s: &Session) -> bool
+    ensures { Decides result (Sound s.now) }
 {
     let flag = s.flag;
     let table = table_sound(&s.rows, s.states, s.inputs, s.outputs);
@@ -230,4 +231,10 @@ pub fn sound(s: Session) -> bool
         both(table, bounds),
         both(both(set, held), both(counts, flagged)),
     )
+}
+
+pub fn sound(s: Session) -> bool
+    ensures { Decides result (Sound s) }
+{
+    is_sound(&s)
 }

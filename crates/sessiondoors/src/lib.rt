@@ -85,9 +85,8 @@ pub extern "C" fn rillmoth_feed(
     if !roomy(words.len(), bytes.len(), told.len()) {
         return false;
     }
-    let fed = feed::feed(layout::session_in(&*words, &*bytes), byte);
-    let test = fed.test;
-    let s = fed.session;
+    let mut s = layout::session_in(&*words, &*bytes);
+    let test = feed::advance(&mut s, byte);
     layout::put_words(&mut *words, s);
     let held = s.held;
     layout::put_held(&mut *bytes, held);

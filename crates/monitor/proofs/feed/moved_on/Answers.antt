@@ -16,5 +16,5 @@ returns c =
       bytes = refl;
       events = refl;
       inputs_seen = refl;
-      flag = c.flagged-flag.ensures _ (finds_unless_empty _ _ (search rules) c.empty-found.ensures);
+      flag = c.flagged-s.ensures _ (finds_unless_empty _ _ (search rules) c.empty-found.ensures);
     }

@@ -1,5 +1,5 @@
 use Rattle.session.proofs.Clauses.{all_decide}
-use Rattle.session.proofs.sound.sound.Goals as goal
+use Rattle.session.proofs.sound.is_sound.Goals as goal
 
 pub returns : goal.returns
 returns c =
