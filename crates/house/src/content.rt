@@ -185,7 +185,7 @@ fn answer(v: Verdict, c: Contents) -> Reading
 }
 
 // What reading the file into buffers of these lengths answers.
-pub(crate) fn judge(file: &[u8], rows: usize, events: usize) -> Reading
+pub fn judge(file: &[u8], rows: usize, events: usize) -> Reading
     ensures { result ≡ answer (verdict file.now rows events) (contents_of file.now) }
 {
     let form = file::form(file);

@@ -13,12 +13,12 @@ mod file;
 
 use answer::is_good;
 pub use answer::{Contents, Reading, Refusal, Source, tell};
-pub use content::test;
+pub use content::{judge, test};
 pub use file::{MOST_BYTES, whole};
 pub use flaw::Flaw;
 
-// Hands out what the blocks hold, unless the file was refused.
-fn hand(reading: Reading, file: &[u8], rows: &mut [u8], events: &mut [u8])
+// Hands out what the blocks hold, unless the file was refused. What has no room in its buffer is not put there.
+pub fn hand(reading: Reading, file: &[u8], rows: &mut [u8], events: &mut [u8])
     ensures rows_after { rows.new ≡ handed reading rows.old (rows_of file.now) }
     ensures events_after { events.new ≡ handed reading events.old (events_of file.now) }
 {

@@ -6,7 +6,7 @@ use native.Mathlib.Omega.{arith}
 use lib.ListN.{length, take}
 use Rattle.house.specs.Limits.{most_bytes}
 use Rattle.house.specs.File.{rows_of, events_of, contents_of}
-use Rattle.house.specs.Reading.{given, verdict, answer, Answers, Unpacks}
+use Rattle.house.specs.Reading.{given, verdict, answer, after, Answers, handed, Unpacks}
 use Rattle.house.specs.declared.answer.Contents.{Contents}
 use Rattle.house.specs.declared.answer.Reading.{Reading}
 use Rattle.house.specs.declared.answer.Reading.TheVariants as reading
@@ -14,6 +14,7 @@ use Rattle.house.specs.declared.answer.Refusal.{Refusal}
 use Rattle.house.specs.declared.answer.Verdict.{Verdict}
 use Rattle.house.specs.declared.answer.Verdict.TheVariants as verdict
 use Rattle.house.proofs.Laws.{form_passes, what_is_held, what_is_unpacked}
+use Rattle.house.proofs.Tests.{roomy, good_passed, handed_after}
 use Rattle.writer.specs.Writing.{Writes}
 use Rattle.writer.specs.declared.answer.Writing.{Writing}
 use Rattle.writer.specs.declared.answer.Writing.TheVariants.{Refused}
@@ -37,6 +38,17 @@ unmade v s c waiting losses trace o a r h x = refused (was_refused v c r (sym x 
 pub read_so : (s d e d' e' : List ℕ) (a : Reading) → length d ≡ row_room → length e ≡ event_room → Answers s d e a d' e'
     → a ≡ answer (verdict s row_room event_room) (contents_of s)
 read_so s d e d' e' a long wide h = rw (long, wide) at h.reading
+
+-- what is handed out of a file that was judged is what a reading hands out
+pub judged : (s d e d' : List ℕ) (a : Reading) → length d ≡ row_room → length e ≡ event_room → a ≡ answer (verdict s row_room event_room) (contents_of s)
+    → d' ≡ handed a d (rows_of s) → Answers s d e a d' (after a e (events_of s))
+judged s d e d' a long wide h x =
+    let v : a ≡ answer (verdict s (length d) (length e)) (contents_of s) = rw (long, wide) h in
+    record {
+      reading = v;
+      rows = x ∙ handed_after a d (rows_of s) (λ good. (roomy s _ _ (good_passed _ _ a v good)).0);
+      events = refl;
+    }
 
 -- the writer's answer, in the words of the file
 in_words : (s rows trace o o' : List ℕ) (c : Contents) (waiting losses : ℕ) (w : Writing) → c ≡ contents_of s → rows ≡ rows_of s

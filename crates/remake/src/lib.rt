@@ -66,13 +66,14 @@ pub fn rebound(file: &[u8], waiting: usize, losses: usize, out: &mut [u8]) -> Wr
     }
 }
 
-// Writes the house file `file` with this trace in place of its own.
+// Writes the house file `file` with this trace in place of its own. It is read as into rooms for a good file; its own events go nowhere.
 pub fn retrace<'a>(file: &'a [u8], trace: &'a [u8], out: &mut [u8]) -> Writing
     ensures { Retraces file.now trace.now out.old result out.new }
 {
     let mut rows = [0u8; ROW_ROOM];
-    let mut events = [0u8; EVENT_ROOM];
-    let reading = house::read(file, &mut rows, &mut events);
+    let mut none = [0u8; 0];
+    let reading = house::judge(file, ROW_ROOM, EVENT_ROOM);
+    house::hand(reading, file, &mut rows, &mut none);
     match reading {
         Reading::Refused(r) => Writing::Refused(r),
         Reading::Good(c) => put(
