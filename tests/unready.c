@@ -222,6 +222,8 @@ static void try_output(void) {
     shut(output.write);
     check(list_to(-1) == RILLMOTH_BROKEN, "an output that is no descriptor");
     check(rillmoth_list(-1, 1) == RILLMOTH_BROKEN, "an input that is no descriptor");
+    errno = 0;
+    check(rillmoth_list(99, 1) == RILLMOTH_BROKEN, "an input that is not open");
 }
 
 int main(int count, char **words) {

@@ -1,6 +1,6 @@
 // A descriptor by its number, as a reader: what the system answered, call by call. The kit's `io` reads one until a buffer is full, the
-// input ends or a read fails, and does not tell the last two apart; that the system noted an error does. A number from 0 up that is not open
-// for reading is told as an input that ends at once.
+// input ends or a read fails, and does not tell the last two apart; that the system noted an error does. Where an error is noted before, from
+// other calls, a number from 0 up that is not open for reading is told as an input that ends at once.
 use std::io::{Error, ErrorKind, Read, Result};
 use std_io::io::last_error;
 
@@ -32,16 +32,21 @@ impl Descriptor {
     }
 }
 
-// Leaves an error noted that no read of a descriptor that is open for reading notes.
-fn note() {
+// Sees to it that a failed read shows, and answers what is noted then: no error, which every failed read replaces, or else one that no read of a
+// descriptor that is open for reading notes.
+fn mark() -> i32 {
+    if last_error().raw_os_error() == Some(0) {
+        return 0;
+    }
     let mut none = [0u8; 1];
     io::read_full(-1, &mut none);
+    NOT_OPEN
 }
 
-// What a read came upon that did not fill its buffer.
-fn came_upon() -> Then {
+// What a read came upon that did not fill its buffer, where this was noted before it.
+fn came_upon(noted: i32) -> Then {
     let e = last_error();
-    if e.raw_os_error() == Some(NOT_OPEN) {
+    if e.raw_os_error() == Some(noted) {
         return Then::End;
     }
     Then::Failure(e)
@@ -59,12 +64,12 @@ impl Read for Descriptor {
         if self.number < 0 {
             return Err(Error::from(ErrorKind::InvalidInput));
         }
-        note();
+        let noted = mark();
         let n = io::read_full(self.number, &mut *buf);
         if n == buf.len() {
             return Ok(n);
         }
-        let then = came_upon();
+        let then = came_upon(noted);
         if n > 0 {
             self.then = then;
             return Ok(n);
