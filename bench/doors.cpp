@@ -17,7 +17,7 @@ using namespace monitors;
 
 extern "C" {
 void inner_session_in(void *session, const uint64_t *words, size_t words_count, const uint8_t *bytes, size_t bytes_count);
-void inner_feed(void *fed, const void *session, uint8_t event);
+void inner_advance(void *test, void *session, uint8_t event);
 void inner_run(void *ran, const uint8_t *rows, size_t rows_count, size_t states, size_t inputs, size_t outputs, size_t waiting, size_t losses,
                const uint8_t *trace, size_t trace_count, uint8_t *out, size_t out_count);
 
@@ -31,8 +31,8 @@ bool door_runs(const door_box *box, const uint8_t *trace, size_t count, uint8_t 
 
 namespace {
 
-// In the module a session is so many bytes, and in the answer of a feed it stands after the test.
-constexpr size_t session_size = 4232, fed_session_at = 32;
+// In the module a session is so many bytes, and a test, which a feed answers, so many.
+constexpr size_t session_size = 4232, test_size = 32;
 
 constexpr size_t rounds = 15;
 
@@ -68,15 +68,11 @@ using feed_loop = void(const workload &w, size_t events, uint64_t *set);
 
 void feeds_within(const workload &w, size_t events, uint64_t *set) {
     memory m = opened(w);
-    alignas(16) static uint8_t one[fed_session_at + session_size], other[fed_session_at + session_size];
-    uint8_t *from = one, *to = other;
-    inner_session_in(from + fed_session_at, m.words, session_words, m.bytes, session_bytes);
-    for (size_t k = 0; k < events; ++k) {
-        inner_feed(to, from + fed_session_at, w.trace[k]);
-        std::swap(from, to);
-    }
+    alignas(16) static uint8_t session[session_size], test[test_size];
+    inner_session_in(session, m.words, session_words, m.bytes, session_bytes);
+    for (size_t k = 0; k < events; ++k) inner_advance(test, session, w.trace[k]);
     // The set stands somewhere in a session: where is found by the one that was fed through the door (see `agree`).
-    std::memcpy(set, from + fed_session_at, session_size);
+    std::memcpy(set, session, session_size);
 }
 
 void feeds_through_c(const workload &w, size_t events, uint64_t *set) {
