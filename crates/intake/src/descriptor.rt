@@ -16,7 +16,8 @@ enum Then {
     Failure(Error),
 }
 
-// What a read comes upon after its bytes is told at the next, and no call is made for it.
+// What a read comes upon after its bytes is told at the next, and no call is made for it. That the descriptor is not open is told at every read
+// from then on: once it is noted, another call would not show it.
 #[derive(Drop)]
 pub struct Descriptor {
     number: i32,
@@ -52,10 +53,23 @@ fn came_upon(noted: i32) -> Then {
     Then::Failure(e)
 }
 
+// What is told at the reads after this was told.
+fn after(then: Then) -> Then {
+    match then {
+        Then::Failure(e) => {
+            if e.raw_os_error() == Some(NOT_OPEN) {
+                return then;
+            }
+            Then::More
+        }
+        _ => Then::More,
+    }
+}
+
 impl Read for Descriptor {
     fn read(&mut self, buf: &mut [u8]) -> Result<usize> {
         let then = self.then;
-        self.then = Then::More;
+        self.then = after(then);
         match then {
             Then::More => {}
             Then::End => return Ok(0),
@@ -74,6 +88,7 @@ impl Read for Descriptor {
             self.then = then;
             return Ok(n);
         }
+        self.then = after(then);
         match then {
             Then::Failure(e) => Err(e),
             _ => Ok(0),
