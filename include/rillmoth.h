@@ -249,9 +249,10 @@ bool rillmoth_listing(const uint8_t *file, size_t file_count, size_t length, uin
  * It waits as the descriptors do. A read or a write that fails is taken as failed, whatever errno says, and is not tried again: EINTR (a
  * handler without SA_RESTART ran before a byte moved) and EAGAIN (a descriptor with O_NONBLOCK is not ready) too. After a failed read the
  * answer is RILLMOTH_BROKEN and nothing was written, unless the input then ends without another byte: then all of it was read, and it is
- * listed. After a failed write the answer is RILLMOTH_BROKEN, and the text may be there in part. What was read is gone in either case. So hand
- * over descriptors that wait, with handlers that restart. Where errno is not 0 before the call, an input from 0 on that is not open for reading
- * is taken for an empty one. A write to a pipe that nobody reads raises SIGPIPE, as any write does. (rillmoth_listing calls nothing.) */
+ * listed. After a failed write the answer is RILLMOTH_BROKEN, and the text may be there in part. What was read is gone in either case. So
+ * hand over descriptors that wait, with handlers that restart and leave errno as it was. Where errno is not 0 before the call, an input
+ * from 0 on that is not open for reading is taken for an empty one. A write to a pipe that nobody reads raises SIGPIPE, as any write does.
+ * (rillmoth_listing calls nothing.) */
 enum rillmoth_outcome {
     RILLMOTH_CONSISTENT = 0,
     RILLMOTH_FLAGGED = 1,
