@@ -1,49 +1,21 @@
 -- Laws of one block: what it holds, its check and its zero fill. Assumes nothing.
-use mathlib.Core.Path.{◌≡◌, refl, sym, ap, ◌∙◌}
-use mathlib.Core.Bool.{Bool, true, false, ◌&&◌}
-use mathlib.Core.List.{List, []}
-use Prim.Native.Nat.{ℕ, ◌+◌, ◌*◌, ◌-◌, ◌≤◌, ◌<◌, min}
-use native.Mathlib.Numerals.{add-one}
+use Rattle.std.proofs.Common.{◌≡◌, refl, sym, ap, ◌∙◌, Bool, false, not, List, [], ℕ, zero, suc, ◌+◌, ◌*◌, ◌-◌, ◌≤◌, ◌<◌, ◌==◌, min, length, take, drop, get_or, add-one, arith}
+use Rattle.std.specs.Prelude.{Some, None, position}
+use Rattle.std.specs.List.{position_or_len}
+use Rattle.std.proofs.Math.Nat.{add-zero, add-suc}
+use Rattle.std.proofs.Math.ListN.{get_or-eq_default, length-take}
+use Rattle.std.proofs.lemmas.Grind.{common_steps}
+use Rattle.std.proofs.lemmas.List.{get_or-take, get_or-drop}
+use Rattle.std.proofs.lemmas.List.Quantifiers.{position-Some}
+use Rattle.std.proofs.lemmas.List.Sums.{fails_before_first}
+use Rattle.std.proofs.lemmas.Bool.Decides.{nat_tests}
 use native.Mathlib.Decide.{dec_le}
-use native.Mathlib.Omega.{arith}
-use lib.ListN.{length, take, drop, length-drop}
-use lib.Seq.{take_all, take-nil, drop-length, drop-nil, drop-drop}
-use borrow.Author.Tests.{eq-eqb, ne_eqb, le-leb, lt-leb}
+use borrow.Author.Tests.{eq-eqb, ne_eqb, le-leb}
 use Rattle.table.proofs.Laws.{found_none, found_first}
-use Rattle.flaw.specs.declared.Fill.TheVariants.{Zero, Stray}
-use Rattle.block.specs.Limits.{payload_at, check_at, room}
+use Rattle.block.specs.Limits.{payload_at, check_at}
 use Rattle.block.specs.Block.{byte, kind, used, payload, share, stray, weighed, fill_of}
 
 -- WHAT IT HOLDS
-
--- past the end there is nothing
-drop_past : (n : ℕ) (l : List ℕ) → length l ≤ n → drop n l ≡ []
-drop_past n l h =
-    let e : length l + (n - length l) ≡ n = omega arith in
-    ap (λ (k : ℕ). drop k l) (sym e) ∙ sym (drop-drop (n - length l) (length l) l) ∙ ap (drop (n - length l)) (drop-length l) ∙ drop-nil (n - length l)
-
-take_cut : (l : List ℕ) (m n : ℕ) → m ≡ min n (length l) → take m l ≡ take n l
-take_cut l m n e =
-    elim (dec_le n (length l)) [
-      | yes h ↦ let f : m ≡ n = omega arith in ap (λ (k : ℕ). take k l) f
-      | no h ↦ take_all m l (omega arith) ∙ sym (take_all n l (omega arith))
-    ]
-
--- the part of a slice from x to y is the payload, where both ends are cut to the slice's length
-pub part : (b : List ℕ) (u n x y : ℕ) → u ≡ used b → n ≡ min u room → x ≡ min payload_at (length b) → y ≡ min (payload_at + n) (length b)
-    → take (y - x) (drop x b) ≡ payload b
-part b u n x y e f g h =
-    elim (dec_le payload_at (length b)) [
-      | yes l ↦
-          let s : x ≡ payload_at = omega arith in
-          ap (λ (k : ℕ). take (y - k) (drop k b)) s
-          ∙ take_cut (drop payload_at b) (y - payload_at) n (omega (arith, length-drop payload_at b))
-          ∙ ap (λ (k : ℕ). take k (drop payload_at b)) (f ∙ ap (λ (k : ℕ). min k room) e)
-      | no l ↦
-          ap (take (y - x)) (drop_past x b (omega arith))
-          ∙ take-nil (y - x)
-          ∙ sym (ap (take (min (used b) room)) (drop_past payload_at b (omega arith)) ∙ take-nil (min (used b) room))
-    ]
 
 pub share_own : (b : List ℕ) (q : ℕ) → kind b ≡ q → share q b ≡ payload b
 share_own b q e = simp (eq-eqb _ _ e)
@@ -57,35 +29,77 @@ pub weighed_none : (b : List ℕ) → weighed b 0 ≡ 0
 unfolding weighed
 weighed_none b = refl
 
--- one byte more
-pub weighed_more : (b : List ℕ) (i : ℕ) → weighed b (i + 1) ≡ weighed b i + (i + 1) * byte b i
+-- one byte more of the part p that is weighed
+pub weighed_more : (b p : List ℕ) (i x : ℕ) → p ≡ take check_at b → i < length p → x ≡ get_or p i 0
+    → weighed b (i + 1) ≡ weighed b i + (i + 1) * x
 unfolding weighed
-weighed_more b i = ap (weighed b) (add-one i)
+weighed_more b p i x e l f =
+    let m : i < check_at = omega (arith, ap length e, length-take check_at b) in
+    ap (weighed b) (add-one i) ∙ ap (λ (y : ℕ). weighed b i + (i + 1) * y) (sym (f ∙ ap (λ (z : List ℕ). get_or z i 0) e ∙ get_or-take check_at b i 0 m))
+
+-- past the end nothing is added
+pub weighed_past : (b : List ℕ) (i m : ℕ) → length b ≤ i → weighed b (i + m) ≡ weighed b i
+unfolding weighed
+weighed_past b i zero h = rw add-zero
+weighed_past b i (suc m) h =
+    let l : length b ≤ i + m = omega arith in
+    rw (add-suc, weighed_past b i m h, get_or-eq_default b 0 l) (omega arith)
+
+pub weighed_all : (b : List ℕ) (n i : ℕ) → i ≡ min n (length b) → weighed b i ≡ weighed b n
+weighed_all b n i e =
+    elim (dec_le n (length b)) [
+      | yes h ↦ let f : i ≡ n = omega arith in rw f
+      | no h ↦ let f : n ≡ i + (n - i) = omega arith in sym (rw f (weighed_past b i (n - i) (omega arith)))
+    ]
 
 -- ZERO FILL
 
--- no byte before the end of the used count is a stray one, nor is a zero
-pub clean_before : (b : List ℕ) (i u : ℕ) → u ≡ used b → i < payload_at + u → stray b i ≡ false
-clean_before b i u e l =
-    let m : i < payload_at + used b = omega arith in
-    rw (lt-leb _ _ m)
+abbrev set : ℕ → Bool
+set x = not (x == 0)
 
-and_false : (a : Bool) → (a && false) ≡ false
-and_false true = refl
-and_false false = refl
+-- the part p of the block from its zero fill's start up to the check
+module _ (b p : List ℕ) (u : ℕ) (e : u ≡ used b) (f : p ≡ take (check_at - (payload_at + u)) (drop (payload_at + u) b)) where
+  abbrev n : ℕ
+  n = payload_at + u
 
-pub clean_at : (b : List ℕ) (i x : ℕ) → x ≡ byte b i → x ≡ 0 → stray b i ≡ false
-clean_at b i x e z = simp (eq-eqb (byte b i) 0 (sym e ∙ z), and_false)
+  at : (i : ℕ) → n + i < check_at → get_or p i 0 ≡ byte b (n + i)
+  at i l =
+      let m : i < check_at - n = omega arith in
+      ap (λ (z : List ℕ). get_or z i 0) f ∙ get_or-take (check_at - n) (drop n b) i 0 m ∙ get_or-drop n b i 0
 
-module _ (b : List ℕ) (i : ℕ) where
-  -- none is found
-  pub fill_none : check_at ≤ i → ((j : ℕ) → j < i → stray b j ≡ false) → Zero ≡ fill_of b
+  clean : (i : ℕ) → ((k : ℕ) → k < i → get_or p k 0 ≡ 0) → (j : ℕ) → j < n + i → j < check_at → stray b j ≡ false
+  clean i h j l m =
+      elim (dec_le n j) [
+        | yes g ↦
+            let q : n + (j - n) ≡ j = omega arith in
+            let z : byte b j ≡ 0 = rw q at (sym (at (j - n) (omega arith)) ∙ h (j - n) (omega arith)) in
+            grind (arith, nat_tests)
+        | no g ↦ grind (arith, nat_tests)
+      ]
+
+  unset : (k : ℕ) → set (get_or p k 0) ≡ false → get_or p k 0 ≡ 0
+  unset k h = grind arith
+
+  -- no byte is set, in the part or past the slice's end
+  pub fill_none : None ≡ position set p → None ≡ fill_of b
   unfolding fill_of
-  fill_none l h = rw ((found_none (stray b) check_at).1 (λ j m. h j (omega arith)))
+  fill_none g =
+      let all : length p ≤ position_or_len set p = grind (arith, common_steps) in
+      let zero : (k : ℕ) → k < check_at → get_or p k 0 ≡ 0 = λ k l. elim (dec_le (length p) k) [
+        | yes m ↦ get_or-eq_default p 0 m
+        | no m ↦ unset k (fails_before_first set p k 0 (omega arith))
+      ] in
+      rw ((found_none (stray b) check_at).1 (λ j l. clean check_at zero j (omega arith) l))
 
   -- the first one
-  pub fill_at : (x : ℕ) → i < check_at → payload_at + used b ≤ i → ((j : ℕ) → j < i → stray b j ≡ false)
-      → x ≡ byte b i → (x ≡ 0 → ⊥) → Stray i ≡ fill_of b
+  pub fill_at : (i : ℕ) → Some i ≡ position set p → Some (n + i) ≡ fill_of b
   unfolding fill_of
-  fill_at x l m h e n =
-      rw ((found_first (stray b) check_at i).1 (l, simp (le-leb _ _ m, ne_eqb (byte b i) 0 (λ z. n (e ∙ z))), h))
+  fill_at i g =
+      let (l, s, h) = position-Some set p i 0 (sym g) in
+      let m : n + i < check_at = omega (arith, ap length f, length-take (check_at - n) (drop n b)) in
+      let r : payload_at + used b ≤ n + i = omega arith in
+      rw ((found_first (stray b) check_at (n + i)).1 (
+        m,
+        rw (le-leb _ _ r) (rw (at i m) at s),
+        λ j k. clean i (λ k l. unset k (h k l)) j k (omega arith),
+      ))

@@ -1,14 +1,13 @@
 -- Document 01, "The house file": one block, byte by byte; what it must be; and the tests of it, numbers 12 and 20 to 23. A block is
 -- a list of 512 bytes; of a list that is shorter, the bytes that are missing are 0. Assumes nothing.
-use Rattle.std.specs.Prelude.{◌≡◌, Bool, true, cond, not, ◌&&◌, ◌||◌, List, [], ◌⊎◌, ℕ, zero, suc, ◌+◌, ◌*◌, ◌%◌, ◌≤◌, ◌<◌, min, eqb, ltb, leb, get_or, take, drop}
-use Rattle.std.proofs.Math.Option.{Option, some, none}
+use Rattle.std.specs.Prelude.{◌≡◌, Bool, true, cond, not, ◌&&◌, ◌||◌, List, [], ◌⊎◌, ℕ, zero, suc, ◌+◌, ◌*◌, ◌%◌, ◌≤◌, ◌<◌, min, eqb, ltb, leb, get_or, take, drop, Option, Some, None}
 use Rattle.model.specs.Limits.{UpTo}
 use Rattle.table.specs.First.{first}
 use Rattle.flaw.specs.Flaws.{first_flaw}
-use Rattle.flaw.specs.declared.Fill.{Fill}
-use Rattle.flaw.specs.declared.Fill.TheVariants.{Zero, Stray}
 use Rattle.flaw.specs.declared.Seen.{Seen}
-use Rattle.flaw.specs.declared.Test.{Test}
+use Rattle.flaw.specs.Test.{Test}
+use Rattle.block.specs.declared.kinds.Kind.{Kind}
+use Rattle.block.specs.declared.kinds.Kind.TheVariants.{Setup, Rows, Events}
 use Rattle.block.specs.Limits.{payload_at, check_at, room, modulus, setup_kind, row_kind, event_kind, setup_size}
 
 -- THE BYTES
@@ -23,6 +22,12 @@ two low high = low + 256 * high
 -- Byte 0 kind;
 abbrev pub kind : List ℕ → ℕ
 kind b = byte b 0
+
+-- (the numbers of the kinds: 1 the setup, 2 rows, 3 events)
+abbrev pub kind_number : Kind → ℕ
+kind_number Setup = setup_kind
+kind_number Rows = row_kind
+kind_number Events = event_kind
 
 -- byte 1 zero;
 abbrev pub byte_one : List ℕ → ℕ
@@ -106,11 +111,11 @@ abbrev pub source_fits : ℕ → ℕ → Bool
 source_fits k source = cond (eqb k 0) (leb source 1) true
 
 -- The first byte that should be zero and is not.
-abbrev pub unless_stray : Option ℕ → Fill
-unless_stray none = Zero
-unless_stray (some i) = Stray i
+abbrev pub unless_stray : Option ℕ → Option ℕ
+unless_stray None = None
+unless_stray (Some i) = Some i
 
-unfoldable pub fill_of : List ℕ → Fill
+unfoldable pub fill_of : List ℕ → Option ℕ
 fill_of b = unless_stray (first (stray b) check_at)
 
 -- What is seen of block k after the block a, part by part.

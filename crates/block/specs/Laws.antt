@@ -1,27 +1,25 @@
 -- What is shown of one block, each under one sentence. proofs/Laws.antt proves them all. Assumes nothing.
-use Rattle.std.specs.Prelude.{◌≡◌, true, false, List, ◌↔◌, ℕ, ◌+◌, ◌<◌}
+use Rattle.std.specs.Prelude.{◌≡◌, true, false, List, ◌↔◌, ℕ, ◌+◌, ◌<◌, Some, Ok, Err}
 use Rattle.flaw.specs.Flaws.{offset_of}
 use Rattle.flaw.specs.Laws.{Shows}
-use Rattle.flaw.specs.declared.Fill.TheVariants.{Stray}
 use Rattle.flaw.specs.declared.Flaw.{Flaw}
 use Rattle.flaw.specs.declared.Flaw.TheVariants.{Kind, ByteOne, Number, Used, Source}
-use Rattle.flaw.specs.declared.Test.TheVariants.{Passed, Failed}
 use Rattle.block.specs.Limits.{check_at}
 use Rattle.block.specs.Block.{byte, two, kind, byte_one, number, used, source, stray, GoodBlock, fill_of, seen, block_test}
 
 -- 12 and 20 to 23 are given exactly when a block is not what it must be.
 abbrev pub BlockPasses : Type 0
-BlockPasses = (b : List ℕ) (k : ℕ) (a : List ℕ) → block_test b k a ≡ Passed ↔ GoodBlock b k a
+BlockPasses = (b : List ℕ) (k : ℕ) (a : List ℕ) → block_test b k a ≡ Ok tt ↔ GoodBlock b k a
 
 -- A flaw is told exactly when it is there and all that comes before it is right.
 abbrev pub FlawTold : Type 0
-FlawTold = (b : List ℕ) (k : ℕ) (a : List ℕ) (f : Flaw) → block_test b k a ≡ Failed f ↔ Shows (seen b k a) f
+FlawTold = (b : List ℕ) (k : ℕ) (a : List ℕ) (f : Flaw) → block_test b k a ≡ Err f ↔ Shows (seen b k a) f
 
 -- Of the zero fill is told the first byte that should be zero and is not.
 abbrev pub FirstStray : Type 0
 FirstStray =
     (b : List ℕ) (i : ℕ)
-    → fill_of b ≡ Stray i
+    → fill_of b ≡ Some i
     ↔ ((i < check_at) × (stray b i ≡ true) × ((j : ℕ) → j < i → stray b j ≡ false))
 
 -- The offset told is where the part stands: there it is read.

@@ -1,27 +1,22 @@
-// One block of a house file, as a slice of its 512 bytes: its bytes, what it holds, and the tests of numbers 12 and 20 to 23. No function
+// One block of a house file, as a slice of its 512 bytes: its bytes, what it holds, and the tests of numbers 12 and 20 to 23. No public function
 // asks anything of its caller: each answers every slice, of whatever length, by an equation of specs/Block.antt.
 #![tactic(auto)]
 
-ghost use Rattle.std.specs.Prelude.{◌≡◌};
+ghost use Rattle.std.specs.Prelude.{◌≡◌, ◌==◌, not, position};
 ghost use Rattle.block.specs.Block.{check, kind_fits, order_fits, used_fits, source_fits, fill_of, seen, block_test};
 
-use flaw::{Fill, Seen, Test};
+use flaw::{Flaw, Seen};
 
 mod bytes;
+mod kinds;
 
 pub use bytes::{CHECK_AT, ROOM, byte, share};
-use bytes::{kind, number, stored, used, wide};
+use bytes::{between, kind, number, stored, used};
+pub use kinds::Kind;
 
 pub const BLOCK: usize = 512;
 
 pub const PAYLOAD_AT: usize = 6;
-
-// The kinds of blocks.
-pub const SETUP: u8 = 1;
-
-pub const ROWS: u8 = 2;
-
-pub const EVENTS: u8 = 3;
 
 const MODULUS: usize = 65521;
 
@@ -35,10 +30,8 @@ pub fn check(b: &[u8]) -> usize
     ensures { result ≡ check b.now }
 {
     let mut sum = 0;
-    let mut i = 0;
-    while i < CHECK_AT {
-        sum += (i + 1) * wide(byte(b, i));
-        i += 1;
+    for (i, x) in between(b, 0, CHECK_AT).iter().enumerate() {
+        sum += (i + 1) * usize::from(*x);
     }
     sum % MODULUS
 }
@@ -47,55 +40,55 @@ fn kind_fits(k: usize, kind: u8) -> bool
     ensures { result ≡ kind_fits k kind }
 {
     if k == 0 {
-        return kind == SETUP;
+        kind == u8::from(Kind::Setup)
+    } else {
+        kind == u8::from(Kind::Rows) || kind == u8::from(Kind::Events)
     }
-    kind == ROWS || kind == EVENTS
 }
 
 // Whether a block of this kind may follow one of kind q with u bytes used.
 fn order_fits(kind: u8, q: u8, u: usize) -> bool
     ensures { result ≡ order_fits kind q u }
 {
-    if kind == q {
-        return u == ROOM;
-    }
-    q < kind
+    if kind == q { u == ROOM } else { q < kind }
 }
 
 fn used_fits(k: usize, used: usize) -> bool
     ensures { result ≡ used_fits k used }
 {
     if k == 0 {
-        return used == SETUP_SIZE;
+        used == SETUP_SIZE
+    } else {
+        (1..=ROOM).contains(&used)
     }
-    1 <= used && used <= ROOM
 }
 
 // Only block 0 has a source.
 fn source_fits(k: usize, source: u8) -> bool
     ensures { result ≡ source_fits k source }
 {
-    if k == 0 {
-        return source <= 1;
-    }
-    true
+    k != 0 || source <= 1
+}
+
+// Where the first byte stands that is not zero.
+fn first_set(bytes: &[u8]) -> Option<usize>
+    ensures { result ≡ position (λ x. not (x == 0)) bytes.now }
+{
+    bytes.iter().position(|x| *x != 0)
 }
 
 // Zero fill: after the used count all is zero, up to the check. A used count that is too large leaves nothing to look at.
-fn fill(b: &[u8]) -> Fill
+#[tactic(auto, using(crate::proofs::Blocks::fill_none, crate::proofs::Blocks::fill_at))]
+fn fill(b: &[u8]) -> Option<usize>
     ensures { result ≡ fill_of b.now }
 {
-    let mut i = PAYLOAD_AT + used(b);
-    while i < CHECK_AT {
-        if byte(b, i) != 0 {
-            return Fill::Stray(i);
-        }
-        i += 1;
-    }
-    Fill::Zero
+    let start = PAYLOAD_AT + used(b);
+    let at = first_set(between(b, start, CHECK_AT))?;
+    Some(start + at)
 }
 
 // What is seen of b as block k after the block `before`.
+#[tactic(auto, unfolding(crate::specs::Block::seen))]
 fn look(b: &[u8], k: usize, before: &[u8]) -> Seen
     ensures { result ≡ seen b.now k before.now }
 {
@@ -113,7 +106,8 @@ fn look(b: &[u8], k: usize, before: &[u8]) -> Seen
 }
 
 // Numbers 12 and 20 to 23, of b as block k after the block `before`. Before block 0 stands nothing, the empty slice.
-pub fn test(b: &[u8], k: usize, before: &[u8]) -> Test
+#[tactic(auto, unfolding(crate::specs::Block::block_test))]
+pub fn test(b: &[u8], k: usize, before: &[u8]) -> Result<(), Flaw>
     ensures { result ≡ block_test b.now k before.now }
 {
     flaw::first(look(b, k, before))

@@ -14,7 +14,7 @@ use Rattle.capture.specs.Fields.{Field, OfHeader, OfRecord, of_header, of_record
 use Rattle.capture.specs.Importing.{imported, after}
 use Rattle.capture.specs.Reading.{taken_at, place_after, handed}
 use Rattle.capture.specs.Laws.{TakenAlike, ImportedAlike}
-use Rattle.capture.specs.declared.answer.Taken.{Taken}
+use Rattle.capture.specs.Answers.{Taken}
 use Rattle.capture.proofs.Records.{record_length}
 
 -- NUMBERS OF THE SAME BYTES

@@ -1,6 +1,7 @@
 -- What the tests of the header, of a record and of an octet say. Assumes nothing.
+use Rattle.std.specs.Prelude.{Option, Some, None}
 use mathlib.Core.Path.{◌≡◌, refl, sym, ap, ◌∙◌}
-use mathlib.Core.Bool.{Bool, true, false, ◌||◌}
+use mathlib.Core.Bool.{true}
 use mathlib.Core.Logic.{◌⊎◌, inl, inr, ⊎_elim}
 use Prim.Native.Nat.{ℕ, ◌+◌, ◌-◌, ◌≤◌, ◌<◌}
 use native.Mathlib.Omega.{arith}
@@ -12,8 +13,8 @@ use Rattle.model.specs.Model.{event}
 use Rattle.model.proofs.Demands.{event_bytes}
 use Rattle.table.specs.Bytes.{symbol_of}
 use Rattle.table.specs.declared.answer.Symbol.{Symbol}
-use Rattle.table.specs.declared.answer.Symbol.TheVariants.{Input, Output, Invalid}
-use Rattle.table.proofs.Checks.{both}
+use Rattle.table.specs.declared.answer.Symbol.TheVariants.{Input, Output}
+use Rattle.std.proofs.lemmas.Bool.{and_parts, or_cases}
 use Rattle.table.proofs.Laws.{symbol_means, given_means}
 use Rattle.capture.specs.Limits.{header_size, record_size, magic, version_major, version_minor, link_type}
 use Rattle.capture.specs.Capture.{two_at, four_at, big, headed, right, of_layout}
@@ -30,10 +31,10 @@ pub header_passes : HeaderPasses
 unfolding headed
 header_passes s = (
   λ e.
-      let (a, e₁) = both (leb header_size (length s)) _ e in
-      let (b, e₂) = both (eqb (four_at (big s) s 0) magic) _ e₁ in
-      let (c, e₃) = both (eqb (two_at (big s) s 4) version_major) _ e₂ in
-      let (d, f) = both (eqb (two_at (big s) s 6) version_minor) _ e₃ in
+      let (a, e₁) = and_parts (leb header_size (length s)) _ e in
+      let (b, e₂) = and_parts (eqb (four_at (big s) s 0) magic) _ e₁ in
+      let (c, e₃) = and_parts (eqb (two_at (big s) s 4) version_major) _ e₂ in
+      let (d, f) = and_parts (eqb (two_at (big s) s 6) version_minor) _ e₃ in
       record {
         whole = leb-true _ _ a;
         magic_there = eqb-true _ _ b;
@@ -55,8 +56,8 @@ pub record_passes : RecordPasses
 unfolding right
 record_passes order r = (
   λ e.
-      let (a, f) = both (leb record_size (length r)) _ e in
-      let (b, c) = both (eqb (four_at order r 8) 1) _ f in
+      let (a, f) = and_parts (leb record_size (length r)) _ e in
+      let (b, c) = and_parts (eqb (four_at order r 8) 1) _ f in
       record { whole = leb-true _ _ a; captured = eqb-true _ _ b; original = eqb-true _ _ c },
   λ g.
       simp (
@@ -66,36 +67,32 @@ record_passes order r = (
       ),
 )
 
-either : (a b : Bool) → (a || b) ≡ true → (a ≡ true) ⊎ (b ≡ true)
-either true b e = inl refl
-either false b e = inr e
-
 pub layout_is : LayoutIs
 unfolding of_layout
 layout_is x = (
   λ e.
       ⊎_elim
       (λ f. inl (ltb-true x 16 f))
-      (λ f. let (a, b) = both (leb 128 x) _ f in inr (leb-true 128 x a, ltb-true x 144 b))
-      (either (ltb x 16) _ e),
+      (λ f. let (a, b) = and_parts (leb 128 x) _ f in inr (leb-true 128 x a, ltb-true x 144 b))
+      (or_cases (ltb x 16) _ e),
   ⊎_elim
       (λ l. simp (lt-ltb x 16 l))
       (λ (l, m). simp (le-ltb x 16 (omega arith), le-leb 128 x l, lt-ltb x 144 m)),
 )
 
 -- an octet of the layout is a symbol, and a symbol's byte is of the layout
-valid : (x : ℕ) → (x < 16) ⊎ ((128 ≤ x) × (x < 144)) → symbol_of x most_inputs most_outputs ≡ Invalid → ⊥
+valid : (x : ℕ) → (x < 16) ⊎ ((128 ≤ x) × (x < 144)) → symbol_of x most_inputs most_outputs ≡ None → ⊥
 valid x (inl l) e =
-    ((symbol_means x most_inputs most_outputs Invalid (omega arith) (omega arith)).0 e).0 x ((event_bytes x).0 (omega arith)) l
+    ((symbol_means x most_inputs most_outputs None (omega arith) (omega arith)).0 e).0 x ((event_bytes x).0 (omega arith)) l
 valid x (inr (l, m)) e =
     let f : 128 + (x - 128) ≡ x = omega arith in
-    ((symbol_means x most_inputs most_outputs Invalid (omega arith) (omega arith)).0 e).1 (x - 128)
+    ((symbol_means x most_inputs most_outputs None (omega arith) (omega arith)).0 e).1 (x - 128)
     (ap event (sym f) ∙ (event_bytes (x - 128)).1) (omega arith)
 
-of_symbol : (x : ℕ) (y : Symbol) → symbol_of x most_inputs most_outputs ≡ y → (y ≡ Invalid → ⊥) → (x < 16) ⊎ ((128 ≤ x) × (x < 144))
-of_symbol x (Input a) e n = let (f, l, g) = (given_means x most_inputs most_outputs a).0 e in inl (omega arith)
-of_symbol x (Output a) e n = let (f, l, g) = (given_means x most_inputs most_outputs a).1 e in inr (omega arith, omega arith)
-of_symbol x Invalid e n = absurd (n refl)
+of_symbol : (x : ℕ) (y : Option Symbol) → symbol_of x most_inputs most_outputs ≡ y → (y ≡ None → ⊥) → (x < 16) ⊎ ((128 ≤ x) × (x < 144))
+of_symbol x (Some (Input a)) e n = let (f, l, g) = (given_means x most_inputs most_outputs a).0 e in inl (omega arith)
+of_symbol x (Some (Output a)) e n = let (f, l, g) = (given_means x most_inputs most_outputs a).1 e in inr (omega arith, omega arith)
+of_symbol x None e n = absurd (n refl)
 
 pub layout_valid : LayoutValid
 layout_valid x = (

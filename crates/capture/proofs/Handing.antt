@@ -1,4 +1,5 @@
 -- What the reader hands out, call by call. Assumes nothing.
+use Rattle.std.specs.Prelude.{Some, None, Ok, Err}
 use mathlib.Core.Path.{◌≡◌, refl, sym, ap, ◌∙◌, subst}
 use mathlib.Core.Bool.{Bool, true, false}
 use mathlib.Core.List.{List, [], ◌∷◌, ◌++◌, append-nil}
@@ -7,48 +8,28 @@ use native.Mathlib.Numerals.{add-one}
 use native.Mathlib.Decide.{dec_lt}
 use native.Mathlib.Omega.{arith}
 use lib.Seq.{append_snoc}
-use borrow.Author.Tests.{lt-ltb, le-ltb}
+use borrow.Author.Tests.{lt-ltb, le-ltb, eq-eqb, ne_eqb}
+use lib.ListN.{length}
 use Rattle.model.specs.Limits.{most_events}
-use Rattle.table.proofs.Checks.{clash}
-use Rattle.capture.specs.Capture.{headed, records, right_at, octet_at, layout_at, octets}
+use Rattle.capture.specs.Capture.{headed, record_at, records, right_at, octet_at, layout_at, octets}
 use Rattle.capture.specs.Reading.{tested, taken_at, place_after}
 use Rattle.capture.specs.Laws.{Takes, unheaded, ended, wrong, over, strange, handed, TakesExactly, HandedOut, no_more, call, InOrder, ExactlyTheEvents, ComesToItsEnd, LeftThere}
-use Rattle.capture.specs.declared.answer.Refusal.TheVariants as refusal
-use Rattle.capture.specs.declared.answer.Taken.{Taken}
-use Rattle.capture.specs.declared.answer.Taken.TheVariants as taken
+use Rattle.capture.specs.Answers.{Taken}
 use Rattle.capture.proofs.Records
 use Rattle.capture.proofs.Records.{there, octets_none, octets_more}
-use Rattle.capture.proofs.Takes as law
 
 -- ONE CALL
-
--- the tests of a record, by how they end
-module _ (r f l : Bool) (i b : ℕ) where
-  tested_wrong : r ≡ false → taken.Refused (refusal.Record i) ≡ tested r f l i b
-  unfolding tested
-  tested_wrong e = simp e
-
-  tested_over : r ≡ true → f ≡ false → taken.Refused (refusal.Events (i + 1)) ≡ tested r f l i b
-  unfolding tested
-  tested_over e g = simp (e, g)
-
-  tested_strange : r ≡ true → f ≡ true → l ≡ false → taken.Refused (refusal.Event i) ≡ tested r f l i b
-  unfolding tested
-  tested_strange e g h = simp (e, g, h)
-
-  tested_handed : r ≡ true → f ≡ true → l ≡ true → taken.Event b ≡ tested r f l i b
-  unfolding tested
-  tested_handed e g h = simp (e, g, h)
 
 module _ (s : List ℕ) (i : ℕ) where
   -- every answer that the tests lead to is the answer
   exact : (t : Taken) → Takes s i t → t ≡ taken_at s i
-  exact t (unheaded e) = law.unheaded s i e
-  exact t (ended e l) = law.at_end s i e (Records.ended s i l)
-  exact t (wrong e l w) = tested_wrong _ _ _ i _ w ∙ law.at_record s i e (there s i l)
-  exact t (over e l r m) = tested_over _ _ _ i _ r (le-ltb i most_events m) ∙ law.at_record s i e (there s i l)
-  exact t (strange e l r m w) = tested_strange _ _ _ i _ r (lt-ltb i most_events m) w ∙ law.at_record s i e (there s i l)
-  exact t (handed e l r m y) = tested_handed _ _ _ i _ r (lt-ltb i most_events m) y ∙ law.at_record s i e (there s i l)
+  unfolding taken_at tested
+  exact t (unheaded e) = simp e
+  exact t (ended e l) = simp (e, eq-eqb (length (record_at s i)) 0 (Records.ended s i l))
+  exact t (wrong e l w) = simp (e, ne_eqb (length (record_at s i)) 0 (there s i l), w)
+  exact t (over e l r m) = simp (e, ne_eqb (length (record_at s i)) 0 (there s i l), r, le-ltb i most_events m)
+  exact t (strange e l r m w) = simp (e, ne_eqb (length (record_at s i)) 0 (there s i l), r, lt-ltb i most_events m, w)
+  exact t (handed e l r m y) = simp (e, ne_eqb (length (record_at s i)) 0 (there s i l), r, lt-ltb i most_events m, y)
 
   given : {t : Taken} → Takes s i t → Takes s i (taken_at s i)
   given {t} x = subst (λ (y : Taken). Takes s i y) (exact t x) x
@@ -91,12 +72,12 @@ pub record Read (s : List ℕ) (i b : ℕ) : Type 0 where
   pub next : place_after (taken_at s i) i ≡ i + 1
 
 module _ (s : List ℕ) (i : ℕ) where
-  read_of : (b : ℕ) (t : Taken) → Takes s i t → t ≡ taken.Event b → taken_at s i ≡ taken.Event b → Read s i b
-  read_of b t (unheaded e) f g = clash (cc)
-  read_of b t (ended e l) f g = clash (cc)
-  read_of b t (wrong e l w) f g = clash (cc)
-  read_of b t (over e l r m) f g = clash (cc)
-  read_of b t (strange e l r m w) f g = clash (cc)
+  read_of : (b : ℕ) (t : Taken) → Takes s i t → t ≡ Ok (Some b) → taken_at s i ≡ Ok (Some b) → Read s i b
+  read_of b t (unheaded e) f g = absurd (cc)
+  read_of b t (ended e l) f g = absurd (cc)
+  read_of b t (wrong e l w) f g = absurd (cc)
+  read_of b t (over e l r m) f g = absurd (cc)
+  read_of b t (strange e l r m w) f g = absurd (cc)
   read_of b t (handed e l r m y) f g =
       record {
         header = e;
@@ -108,26 +89,29 @@ module _ (s : List ℕ) (i : ℕ) where
         next = ap (λ (x : Taken). place_after x i) g;
       }
 
-  pub read : (b : ℕ) → taken_at s i ≡ taken.Event b → Read s i b
+  pub read : (b : ℕ) → taken_at s i ≡ Ok (Some b) → Read s i b
   read b e = read_of b (taken_at s i) (takes s i) e e
 
-  -- and where the end is told
-  ended_of : (t : Taken) → Takes s i t → t ≡ taken.End → (headed s ≡ true) × (records s ≤ i)
-  ended_of t (unheaded e) f = clash (cc)
-  ended_of t (ended e l) f = (e, l)
-  ended_of t (wrong e l w) f = clash (cc)
-  ended_of t (over e l r m) f = clash (cc)
-  ended_of t (strange e l r m w) f = clash (cc)
-  ended_of t (handed e l r m y) f = clash (cc)
+  pub few : (b : ℕ) → taken_at s i ≡ Ok (Some b) → i < most_events
+  few b e = (read b e).few
 
-  at_end : taken_at s i ≡ taken.End → (headed s ≡ true) × (records s ≤ i)
+  -- and where the end is told
+  ended_of : (t : Taken) → Takes s i t → t ≡ Ok None → (headed s ≡ true) × (records s ≤ i)
+  ended_of t (unheaded e) f = absurd (cc)
+  ended_of t (ended e l) f = (e, l)
+  ended_of t (wrong e l w) f = absurd (cc)
+  ended_of t (over e l r m) f = absurd (cc)
+  ended_of t (strange e l r m w) f = absurd (cc)
+  ended_of t (handed e l r m y) f = absurd (cc)
+
+  at_end : taken_at s i ≡ Ok None → (headed s ≡ true) × (records s ≤ i)
   at_end e = ended_of (taken_at s i) (takes s i) e
 
 -- where no event is handed out the place stays
-stays : (t : Taken) (i : ℕ) → ((b : ℕ) → t ≡ taken.Event b → ⊥) → place_after t i ≡ i
-stays (taken.Event b) i n = absurd (n b refl)
-stays taken.End i n = refl
-stays (taken.Refused r) i n = refl
+stays : (t : Taken) (i : ℕ) → ((b : ℕ) → t ≡ Ok (Some b) → ⊥) → place_after t i ≡ i
+stays (Ok (Some b)) i n = absurd (n b refl)
+stays (Ok None) i n = refl
+stays (Err r) i n = refl
 
 pub left_there : LeftThere
 left_there s i t e n =
@@ -166,12 +150,12 @@ module _ (s : List ℕ) where
         | yes n ↦ passed h k (rw r.next (omega arith)) m
         | no n ↦
             let f : i ≡ k = omega arith in
-            let r' : Read s i (octet_at s i) = read s i (octet_at s i) (e ∙ ap taken.Event r.byte) in
+            let r' : Read s i (octet_at s i) = read s i (octet_at s i) (e ∙ ap (λ (x : ℕ). Ok (Some x)) r.byte) in
             rw (← f) r'
       ]
 
   -- one call more
-  more : {i j b : ℕ} {bytes : List ℕ} → HandedOut s i bytes j → taken_at s j ≡ taken.Event b → HandedOut s i (bytes ++ (b ∷ [])) (j + 1)
+  more : {i j b : ℕ} {bytes : List ℕ} → HandedOut s i bytes j → taken_at s j ≡ Ok (Some b) → HandedOut s i (bytes ++ (b ∷ [])) (j + 1)
   more {i} {j = j} {b = b} no_more e = call {j = j + 1} {bytes = []} e (rw (read s i b e).next no_more)
   more {j = j} (call f h) e = call {j = j + 1} f (more h e)
 
@@ -202,12 +186,12 @@ exactly_the_events s bytes j x =
     )
 
 pub comes_to_its_end : ComesToItsEnd
-comes_to_its_end s g = record { calls = go (records s) (omega arith); end = sym ((takes_exactly s (records s) taken.End).0 (ended g.header (omega arith))) }
+comes_to_its_end s g = record { calls = go (records s) (omega arith); end = sym ((takes_exactly s (records s) (Ok None)).0 (ended g.header (omega arith))) }
   where
     go : (n : ℕ) → n ≤ records s → HandedOut s 0 (octets s n) n
     go zero l = rw (octets_none s) no_more
     go (suc n) l =
         let m : n < records s = omega arith in
         let few = g.few in
-        let t = sym ((takes_exactly s n (taken.Event (octet_at s n))).0 (handed g.header m (g.lengths n m) (omega arith) (g.layout n m))) in
+        let t = sym ((takes_exactly s n (Ok (Some (octet_at s n)))).0 (handed g.header m (g.lengths n m) (omega arith) (g.layout n m))) in
         rw (← add-one n, octets_more s n) (more s (go n (omega arith)) t)

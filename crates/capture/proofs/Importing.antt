@@ -1,8 +1,9 @@
 -- When an import gives which answer, and that the reader and the import agree. Assumes nothing.
+use Rattle.std.specs.Prelude.{Ok, Err, is_ok}
 use mathlib.Core.Path.{◌≡◌, refl, sym, ap, ◌∙◌, subst}
 use mathlib.Core.Bool.{Bool, true, false}
 use mathlib.Core.List.{List}
-use Prim.Native.Nat.{ℕ, ◌≤◌, ◌<◌}
+use Prim.Native.Nat.{ℕ, ◌≤◌}
 use native.Mathlib.Decide.{dec_lt, dec_le}
 use native.Mathlib.Omega.{arith}
 use lib.ListN.{length, drop}
@@ -10,40 +11,16 @@ use lib.Seq.{take-append_seam, drop-append_seam}
 use borrow.Author.Tests.{eq-eqb, ne_eqb, le-leb, lt-leb}
 use Rattle.model.specs.Limits.{most_events}
 use Rattle.capture.specs.Capture.{headed, records, right_at, layout_at, events_of, GoodCapture}
-use Rattle.capture.specs.Refusals.{is_good}
 use Rattle.capture.specs.Importing.{right_records, layout_records, verdict, imported, after, Imports}
 use Rattle.capture.specs.Laws.{Imported_as, unheaded, wrong, over, strange, short, good, ImportsExactly, OneImport, NothingWritten, WhatIsWritten, ReadAsImported, ImportedAsRead}
 use Rattle.capture.specs.declared.answer.Refusal.TheVariants as refusal
-use Rattle.capture.specs.declared.answer.Imported.{Imported}
-use Rattle.capture.specs.declared.answer.Imported.TheVariants.{Good, Refused}
+use Rattle.capture.specs.Answers.{Imported}
 use Rattle.capture.proofs.Handing.{exactly_the_events, comes_to_its_end}
 use Rattle.capture.proofs.Imports.{good_capture, capture_good}
 use Rattle.capture.proofs.Passing.{Pass, passing_all, passing_to, passing_known}
 use Rattle.capture.proofs.Records.{octets_length}
 
 -- THE ANSWERS
-
--- each test that fails, after those before it have passed
-module _ (h : Bool) (n t l room : ℕ) where
-  at_header : h ≡ false → Refused refusal.Header ≡ verdict h n t l room
-  unfolding verdict
-  at_header a = simp a
-
-  at_wrong : h ≡ true → (t ≡ n → ⊥) → Refused (refusal.Record t) ≡ verdict h n t l room
-  unfolding verdict
-  at_wrong a b = simp (a, ne_eqb t n b)
-
-  at_over : h ≡ true → t ≡ n → most_events < n → Refused (refusal.Events n) ≡ verdict h n t l room
-  unfolding verdict
-  at_over a b c = simp (a, eq-eqb t n b, lt-leb n most_events c)
-
-  at_strange : h ≡ true → t ≡ n → n ≤ most_events → (l ≡ n → ⊥) → Refused (refusal.Event l) ≡ verdict h n t l room
-  unfolding verdict
-  at_strange a b c d = simp (a, eq-eqb t n b, le-leb n most_events c, ne_eqb l n d)
-
-  at_short : h ≡ true → t ≡ n → n ≤ most_events → l ≡ n → room < n → Refused (refusal.Buffer n) ≡ verdict h n t l room
-  unfolding verdict
-  at_short a b c d e = simp (a, eq-eqb t n b, le-leb n most_events c, eq-eqb l n d, lt-leb n room e)
 
 module _ (s : List ℕ) (room : ℕ) where
   abbrev n : ℕ
@@ -57,19 +34,24 @@ module _ (s : List ℕ) (room : ℕ) where
 
   -- every answer that the tests lead to is the answer
   exact : (r : Imported) → Imported_as s room r → r ≡ imported s room
-  unfolding imported
-  exact r (unheaded a) = at_header (headed s) n (right_records s) (layout_records s) room a
+  unfolding imported verdict
+  exact r (unheaded a) = simp a
   exact r (wrong {k} a l p w) =
       let e : k ≡ right_records s = passing_to (right_at s) n k l p w in
-      ap (λ (x : ℕ). Refused (refusal.Record x)) e
-      ∙ at_wrong (headed s) n (right_records s) (layout_records s) room a (λ z. omega arith)
-  exact r (over a p c) = at_over (headed s) n (right_records s) (layout_records s) room a (all_right p) c
+      simp (a, ne_eqb (right_records s) n (λ z. omega arith)) (ap (λ (x : ℕ). Err (refusal.Record x)) e)
+  exact r (over a p c) = simp (a, eq-eqb (right_records s) n (all_right p), lt-leb n most_events c)
   exact r (strange {k} a p c l q w) =
       let e : k ≡ layout_records s = passing_to (layout_at s) n k l q w in
-      ap (λ (x : ℕ). Refused (refusal.Event x)) e
-      ∙ at_strange (headed s) n (right_records s) (layout_records s) room a (all_right p) c (λ z. omega arith)
+      simp (a, eq-eqb (right_records s) n (all_right p), le-leb n most_events c, ne_eqb (layout_records s) n (λ z. omega arith))
+      (ap (λ (x : ℕ). Err (refusal.Event x)) e)
   exact r (short g l) =
-      at_short (headed s) n (right_records s) (layout_records s) room g.header (all_right g.lengths) g.few (all_events g.layout) l
+      simp (
+        g.header,
+        eq-eqb (right_records s) n (all_right g.lengths),
+        le-leb n most_events g.few,
+        eq-eqb (layout_records s) n (all_events g.layout),
+        lt-leb n room l,
+      )
   exact r (good g l) = sym (capture_good s room g l)
 
   given : {r : Imported} → Imported_as s room r → Imported_as s room (imported s room)
@@ -124,12 +106,12 @@ one_import s d r₁ r₂ d₁ d₂ x y =
 pub nothing_written : NothingWritten
 nothing_written s d r d' x = x.events
 
-count_of : {a b : ℕ} → Good a ≡ Good b → a ≡ b
+count_of : {a b : ℕ} → ◌≡◌ {A = Imported} (Ok a) (Ok b) → a ≡ b
 count_of e = cc
 
 pub what_is_written : WhatIsWritten
 what_is_written s d n d' x =
-    let (g, l, e) = good_capture s (length d) (sym (ap is_good x.answer)) in
+    let (g, l, e) = good_capture s (length d) (sym (ap is_ok x.answer)) in
     let f : n ≡ records s = count_of (x.answer ∙ e) in
     let m : n ≡ length (events_of s) = f ∙ sym (octets_length s (records s)) in
     record {
@@ -150,6 +132,6 @@ read_as_imported s d n d' x =
 pub imported_as_read : ImportedAsRead
 imported_as_read s bytes j d r d' c x l =
     let (g, e, f) = exactly_the_events s bytes j c in
-    let a : r ≡ Good j = x.answer ∙ capture_good s (length d) g (omega arith) ∙ ap Good (sym f) in
-    let y : Imports s d (Good j) d' = record { answer = sym a ∙ x.answer; events = x.events ∙ ap (λ (z : Imported). after z d (events_of s)) a } in
+    let a : r ≡ Ok j = x.answer ∙ capture_good s (length d) g (omega arith) ∙ ap Ok (sym f) in
+    let y : Imports s d (Ok j) d' = record { answer = sym a ∙ x.answer; events = x.events ∙ ap (λ (z : Imported). after z d (events_of s)) a } in
     (a, (what_is_written s d j d' y).start ∙ sym e)

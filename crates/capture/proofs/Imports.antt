@@ -1,37 +1,24 @@
 -- Laws of a whole import: when it is good, what it refuses, and what it leaves. Assumes nothing.
-use mathlib.Core.Path.{◌≡◌, refl, sym, ◌∙◌}
+use Rattle.std.specs.Prelude.{Ok, is_ok}
+use mathlib.Core.Path.{◌≡◌, refl, sym, ◌∙◌, ap}
 use mathlib.Core.Bool.{Bool, true, false}
 use mathlib.Core.List.{List}
 use Prim.Native.Nat.{ℕ, ◌≤◌}
 use lib.Dec.{eqb, leb}
 use borrow.Author.Tests.{eqb-true, leb-true, eq-eqb, le-leb}
 use Rattle.model.specs.Limits.{most_events}
-use Rattle.table.proofs.Checks.{clash}
 use Rattle.capture.specs.Capture.{headed, records, right_at, layout_at, GoodCapture}
-use Rattle.capture.specs.Refusals.{is_good}
-use Rattle.lent.specs.Lent.{front}
-use Rattle.capture.specs.Importing.{must, right_records, layout_records, verdict, imported, after}
+use Rattle.capture.specs.Importing.{right_records, layout_records, verdict, imported}
 use Rattle.capture.specs.declared.answer.Refusal.{Refusal}
-use Rattle.capture.specs.declared.answer.Imported.{Imported}
-use Rattle.capture.specs.declared.answer.Imported.TheVariants.{Good, Refused}
+use Rattle.capture.specs.Answers.{Imported, must}
 use Rattle.capture.proofs.Passing.{passing_all, all_pass}
-
--- THE BUFFER
-
-pub after_good : (r : Imported) (d p : List ℕ) → is_good r ≡ true → front d p ≡ after r d p
-after_good (Good n) d p e = refl
-after_good (Refused r) d p e = clash (cc)
-
-pub after_refused : (r : Imported) (d p : List ℕ) → is_good r ≡ false → d ≡ after r d p
-after_refused (Good n) d p e = clash (cc)
-after_refused (Refused r) d p e = refl
 
 -- THE TESTS
 
 -- an import is good where a test passes and the others are good
-must_good : (b : Bool) (r : Refusal) (x : Imported) → is_good (must b r x) ≡ true → (b ≡ true) × (is_good x ≡ true) × (must b r x ≡ x)
+must_good : (b : Bool) (r : Refusal) (x : Imported) → is_ok (must b r x) ≡ true → (b ≡ true) × (is_ok x ≡ true) × (must b r x ≡ x)
 must_good true r x e = (refl, e, refl)
-must_good false r x e = clash (cc)
+must_good false r x e = absurd (cc)
 
 -- what a good import says of its figures
 pub record Passed (head : Bool) (n right layout room : ℕ) : Type 0 where
@@ -42,7 +29,7 @@ pub record Passed (head : Bool) (n right layout room : ℕ) : Type 0 where
   pub fits : n ≤ room
 
 module _ (h : Bool) (n t l room : ℕ) where
-  pub verdict_good : is_good (verdict h n t l room) ≡ true → Passed h n t l room × (verdict h n t l room ≡ Good n)
+  pub verdict_good : is_ok (verdict h n t l room) ≡ true → Passed h n t l room × (verdict h n t l room ≡ Ok n)
   unfolding verdict
   verdict_good e =
       let (a, e₁, f₁) = must_good h _ _ e in
@@ -60,7 +47,7 @@ module _ (h : Bool) (n t l room : ℕ) where
         f₁ ∙ f₂ ∙ f₃ ∙ f₄ ∙ f₅,
       )
 
-  pub verdict_passes : Passed h n t l room → verdict h n t l room ≡ Good n
+  pub verdict_passes : Passed h n t l room → verdict h n t l room ≡ Ok n
   unfolding verdict
   verdict_passes p =
       simp (
@@ -74,7 +61,7 @@ module _ (h : Bool) (n t l room : ℕ) where
 -- A GOOD CAPTURE
 
 module _ (s : List ℕ) (room : ℕ) where
-  pub good_capture : is_good (imported s room) ≡ true → GoodCapture s × (records s ≤ room) × (imported s room ≡ Good (records s))
+  pub good_capture : is_ok (imported s room) ≡ true → GoodCapture s × (records s ≤ room) × (imported s room ≡ Ok (records s))
   unfolding imported
   good_capture e =
       let (p, f) = verdict_good (headed s) (records s) (right_records s) (layout_records s) room e in (
@@ -88,7 +75,7 @@ module _ (s : List ℕ) (room : ℕ) where
         f,
       )
 
-  pub capture_good : GoodCapture s → records s ≤ room → imported s room ≡ Good (records s)
+  pub capture_good : GoodCapture s → records s ≤ room → imported s room ≡ Ok (records s)
   unfolding imported
   capture_good g l =
       verdict_passes (headed s) (records s) (right_records s) (layout_records s) room
@@ -99,3 +86,7 @@ module _ (s : List ℕ) (room : ℕ) where
         layout_all = sym (passing_all (layout_at s) (records s) g.layout);
         fits = l;
       })
+
+  -- there is room for what a good import writes
+  pub room_for : (n : ℕ) → imported s room ≡ Ok n → records s ≤ room
+  room_for n e = (good_capture (ap is_ok e)).1

@@ -1,14 +1,12 @@
 -- Every statement of specs/Judging.antt, proved: by the monitor's published laws alone. Assumes nothing.
-use mathlib.Core.Path.{◌≡◌, refl, ap, subst}
+use Rattle.std.specs.Prelude.{Option, Ok}
+use mathlib.Core.Path.{◌≡◌, refl, subst}
 use mathlib.Core.List.{List}
 use Prim.Native.Nat.{ℕ}
 use native.Mathlib.Omega.{arith}
 use lib.ListN.{take, get_or}
 use Rattle.table.specs.Bytes.{table_of}
-use Rattle.table.specs.declared.answer.Test.TheVariants.{Passed, Refused}
-use Rattle.table.proofs.Checks.{clash}
-use Rattle.session.specs.declared.Flag.{Flag}
-use Rattle.run.specs.declared.Ran.{Ran}
+use Rattle.run.specs.Ran.{Ran}
 use Rattle.monitor.specs.Laws.{Follows}
 use Rattle.run.specs.Run.{RunTo, Runs, refused, ran}
 use Rattle.monitor.proofs.Laws.{plausible_after_feeding}
@@ -17,14 +15,13 @@ use Rattle.capture.specs.Judging.{RunAsImported, FedAsImported, FedAsHandedOut, 
 use Rattle.capture.proofs.Laws.{what_is_written, in_order, exactly_the_events, all_of_layout, layout_valid, one_each}
 
 -- what a run that passed has done
-run_done : (rows : List ℕ) (q i o B c : ℕ) (trace before : List ℕ) (r : Ran) (after : List ℕ) (f : Flag)
-    → Runs rows q i o B c trace before r after → r ≡ record { test = Passed; flag = f } → RunTo rows q i o B c trace before after f
+run_done : (rows : List ℕ) (q i o B c : ℕ) (trace before : List ℕ) (r : Ran) (after : List ℕ) (f : Option ℕ)
+    → Runs rows q i o B c trace before r after → r ≡ Ok f → RunTo rows q i o B c trace before after f
 run_done rows q i o B c trace before r after f (refused {r = r'} e) g =
-    let h : Refused r' ≡ Passed = ap (λ (x : Ran). x.test) g in
-    clash (cc)
+    absurd (cc)
 run_done rows q i o B c trace before r after f (ran {f = f'} e t) g =
-    let h : f' ≡ f = ap (λ (x : Ran). x.flag) g in
-    subst (λ (x : Flag). RunTo rows q i o B c trace before after x) h t
+    let h : f' ≡ f = cc in
+    subst (λ (x : Option ℕ). RunTo rows q i o B c trace before after x) h t
 
 pub run_as_imported : RunAsImported
 run_as_imported s d n d' rows q i o B c before after f x r =

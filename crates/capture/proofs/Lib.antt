@@ -3,7 +3,6 @@ pub mod Judging
 mod Records
 mod Passing
 mod Fields
-mod Takes
 mod Handing
 mod Imports
 mod Importing

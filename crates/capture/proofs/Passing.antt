@@ -1,21 +1,27 @@
 -- Laws of how many records come before the first that fails a test. Assumes nothing.
-use mathlib.Core.Path.{◌≡◌, refl, ap}
-use mathlib.Core.Bool.{Bool, true, false, not}
-use mathlib.Core.Option.{Option, some, none}
-use Prim.Native.Nat.{ℕ, ◌+◌, ◌≤◌, ◌<◌}
+use mathlib.Core.Path.{◌≡◌, refl, sym, ap, ◌∙◌}
+use mathlib.Core.Bool.{Bool, true, false, not, cond}
+use mathlib.Core.List.{List}
+use Prim.Native.Nat.{ℕ, ◌≤◌, ◌<◌}
 use native.Mathlib.Decide.{dec_lt}
 use native.Mathlib.Omega.{arith}
-use Rattle.table.specs.First.{first}
-use Rattle.table.proofs.Checks.{clash}
-use Rattle.table.proofs.Laws.{found_none, found_first}
-use Rattle.capture.specs.Importing.{or_else, passing}
+use lib.Dec.{ltb}
+use lib.ListN.{length, get_or}
+use borrow.Author.Tests.{ltb-false}
+use Rattle.std.specs.Prelude.{Option, None, Some}
+use Rattle.std.specs.Option.{unwrap_or}
+use Rattle.std.specs.List.{range_with_len, position_or_len}
+use Rattle.std.proofs.lemmas.List.FromFn.{length-range_with_len, get_or-range_with_len}
+use Rattle.std.proofs.lemmas.List.Quantifiers.{position-Some}
+use Rattle.std.proofs.lemmas.List.Sums.{fails_before_first}
+use Rattle.capture.specs.Importing.{first_failing, passing}
 
 not_not : (b : Bool) → not b ≡ false → b ≡ true
 not_not true e = refl
-not_not false e = clash (cc)
+not_not false e = absurd (cc)
 
 not_true : (b : Bool) → not b ≡ true → b ≡ false
-not_true true e = clash (cc)
+not_true true e = absurd (cc)
 not_true false e = refl
 
 module _ (p : ℕ → Bool) where
@@ -23,42 +29,77 @@ module _ (p : ℕ → Bool) where
   abbrev pub Pass : ℕ → Type 0
   Pass n = (j : ℕ) → j < n → p j ≡ true
 
-  -- one more
-  pub pass_more : (k : ℕ) → Pass k → p k ≡ true → Pass (k + 1)
-  pass_more k h e j l =
-      elim (dec_lt j k) [
-        | yes m ↦ h j m
-        | no m ↦ let f : j ≡ k = omega arith in rw f e
-      ]
+  abbrev fails : ℕ → Bool
+  fails k = not (p k)
 
-  pub passing_all : (n : ℕ) → Pass n → n ≡ passing p n
-  unfolding passing
-  passing_all n h = rw ((found_none (λ (k : ℕ). not (p k)) n).1 (λ j l. ap not (h j l)))
+  abbrev below : ℕ → List ℕ
+  below n = range_with_len 0 n
+
+  -- the number below n that is at place j
+  place : (n j : ℕ) → j < n → get_or (below n) j 0 ≡ j
+  place n j l = omega (arith, get_or-range_with_len 0 n j 0 l)
+
+  -- what the first that fails says,
+  pub some_failing : (n k : ℕ) → first_failing p n ≡ Some k → (k < n) × (p k ≡ false) × Pass k
+  some_failing n k e =
+      let (l, f, h) = position-Some fails (below n) k 0 e in
+      let m : k < n = omega (arith, length-range_with_len 0 n) in (
+        m,
+        not_true (p k) (ap fails (sym (place n k m)) ∙ f),
+        λ j a. not_not (p j) (ap fails (sym (place n j (omega arith))) ∙ h j a),
+      )
+
+  pub some_below : (n k : ℕ) → first_failing p n ≡ Some k → k < n
+  some_below n k e = (some_failing n k e).0
+
+  -- and that there is none
+  pub none_failing : (n : ℕ) → first_failing p n ≡ None → Pass n
+  none_failing n e j l = go (ltb (position_or_len fails (below n)) (length (below n))) refl e
+    where
+      go : (b : Bool) → ltb (position_or_len fails (below n)) (length (below n)) ≡ b
+          → cond b (Some (position_or_len fails (below n))) None ≡ None → p j ≡ true
+      go true e f = absurd (cc)
+      go false e f =
+          let m : length (below n) ≤ position_or_len fails (below n) = ltb-false _ _ e in
+          not_not (p j)
+          (ap fails (sym (place n j l)) ∙ fails_before_first fails (below n) j 0 (omega (arith, length-range_with_len 0 n)))
 
   pub passing_to : (n k : ℕ) → k < n → Pass k → p k ≡ false → k ≡ passing p n
   unfolding passing
-  passing_to n k l h e = rw ((found_first (λ (k : ℕ). not (p k)) n k).1 (l, ap not e, λ j m. ap not (h j m)))
+  passing_to n k l h e = go (first_failing p n) refl
+    where
+      go : (f : Option ℕ) → first_failing p n ≡ f → k ≡ unwrap_or f n
+      go None g = let t : p k ≡ true = none_failing n g k l in absurd (cc)
+      go (Some m) g =
+          let (a, f, b) = some_failing n m g in
+          elim (dec_lt k m) [
+            | yes x ↦ let t : p k ≡ true = b k x in absurd (cc)
+            | no x ↦ elim (dec_lt m k) [
+              | yes y ↦ let t : p m ≡ true = h m y in absurd (cc)
+              | no y ↦ omega arith
+            ]
+          ]
+
+  pub passing_all : (n : ℕ) → Pass n → n ≡ passing p n
+  unfolding passing
+  passing_all n h = go (first_failing p n) refl
+    where
+      go : (f : Option ℕ) → first_failing p n ≡ f → n ≡ unwrap_or f n
+      go None g = refl
+      go (Some m) g = let (l, f, b) = some_failing n m g in let t : p m ≡ true = h m l in absurd (cc)
 
   -- what the number says
   pub record Known (n m : ℕ) : Type 0 where
-    pub within : m ≤ n
     pub before : Pass m
     pub at : m < n → p m ≡ false
 
   pub passing_known : (n : ℕ) → Known n (passing p n)
   unfolding passing
-  passing_known n = go (first (λ (k : ℕ). not (p k)) n) refl
+  passing_known n = go (first_failing p n) refl
     where
-      go : (f : Option ℕ) → first (λ (k : ℕ). not (p k)) n ≡ f → Known n (or_else f n)
-      go none g =
-          record {
-            within = omega arith;
-            before = λ j l. not_not (p j) ((found_none (λ (k : ℕ). not (p k)) n).0 g j l);
-            at = λ l. absurd (omega arith);
-          }
-      go (some k) g =
-          let (l, b, h) = (found_first (λ (k : ℕ). not (p k)) n k).0 g in
-          record { within = omega arith; before = λ j m. not_not (p j) (h j m); at = λ m. not_true (p k) b }
+      go : (f : Option ℕ) → first_failing p n ≡ f → Known n (unwrap_or f n)
+      go None g = record { before = none_failing n g; at = λ l. absurd (omega arith) }
+      go (Some k) g = let (l, f, h) = some_failing n k g in record { before = h; at = λ m. f }
 
   -- all pass exactly when the number is that of all
   pub all_pass : (n : ℕ) → passing p n ≡ n → Pass n

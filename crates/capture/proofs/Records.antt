@@ -1,54 +1,19 @@
 -- Laws of a capture's records: which part of it each is, and what their octets are together. Assumes nothing.
 use mathlib.Core.Path.{◌≡◌, refl, sym, ap, ◌∙◌}
-use mathlib.Core.Bool.{Bool}
 use mathlib.Core.List.{List, [], ◌∷◌, ◌++◌}
-use Prim.Native.Nat.{ℕ, zero, suc, ◌+◌, ◌*◌, ◌-◌, ◌/◌, ◌≤◌, ◌<◌, min}
+use Prim.Native.Nat.{ℕ, zero, suc, ◌+◌, ◌*◌, ◌-◌, ◌≤◌, ◌<◌, min}
 use native.Mathlib.Numerals.{add-one}
-use native.Mathlib.Decide.{dec_le, dec_lt}
+use native.Mathlib.Decide.{dec_lt}
 use native.Mathlib.Omega.{arith}
-use lib.ListN.{length, take, drop, get_or, set, length-append, length-take, length-drop, get_or-append}
-use lib.Seq.{take_all, take-nil, drop-length, drop-nil, drop-drop, drop-cons, append_snoc, set-append_seam, get_or-append-add}
+use lib.ListN.{length, drop, get_or, set, length-append, length-take, length-drop, get_or-append}
+use lib.Seq.{drop-cons, append_snoc, set-append_seam, get_or-append-add}
 use Rattle.capture.specs.Limits.{header_size, record_size}
-use Rattle.capture.specs.Capture.{big, record_at, records, right, right_at, octet, octet_at, of_layout, layout_at, octets}
+use Rattle.capture.specs.Capture.{record_at, records, octet_at, octets}
 use Rattle.lent.specs.Lent.{front}
 
 -- WHICH PART OF IT EACH IS
 
--- past the end there is nothing
-drop_past : (n : ℕ) (l : List ℕ) → length l ≤ n → drop n l ≡ []
-drop_past n l h =
-    let e : length l + (n - length l) ≡ n = omega arith in
-    ap (λ (k : ℕ). drop k l) (sym e) ∙ sym (drop-drop (n - length l) (length l) l) ∙ ap (drop (n - length l)) (drop-length l) ∙ drop-nil (n - length l)
-
-take_cut : (l : List ℕ) (m n : ℕ) → m ≡ min n (length l) → take m l ≡ take n l
-take_cut l m n e =
-    elim (dec_le n (length l)) [
-      | yes h ↦ let f : m ≡ n = omega arith in ap (λ (k : ℕ). take k l) f
-      | no h ↦ take_all m l (omega arith) ∙ sym (take_all n l (omega arith))
-    ]
-
 module _ (s : List ℕ) (i : ℕ) where
-  -- a record that begins at or after the end
-  none_there : length s ≤ header_size + record_size * i → record_at s i ≡ []
-  none_there h = ap (take record_size) (drop_past (header_size + record_size * i) s h) ∙ take-nil record_size
-
-  pub far : length s / record_size < i → [] ≡ record_at s i
-  far h = sym (none_there (omega arith))
-
-  -- the part from x to y, where both ends are cut to the capture's length
-  pub part : (x y : ℕ) → x ≡ min (header_size + record_size * i) (length s) → y ≡ min (x + record_size) (length s)
-      → take (y - x) (drop x s) ≡ record_at s i
-  part x y e f =
-      elim (dec_le (header_size + record_size * i) (length s)) [
-        | yes l ↦
-            let g : x ≡ header_size + record_size * i = omega arith in
-            ap (λ (k : ℕ). take (y - k) (drop k s)) g
-            ∙ take_cut (drop (header_size + record_size * i) s) (y - (header_size + record_size * i)) record_size
-            (omega (arith, length-drop (header_size + record_size * i) s))
-        | no l ↦
-            ap (take (y - x)) (drop_past x s (omega arith)) ∙ take-nil (y - x) ∙ sym (none_there (omega arith))
-      ]
-
   -- how much there is of it
   pub record_length : length (record_at s i) ≡ min record_size (length s - (header_size + record_size * i))
   record_length =
@@ -125,15 +90,3 @@ octet_put s d x k b e f l =
     let n = octets_length s k in
     rw (e, f, octets_more s k)
     (ap (λ (j : ℕ). set (front d (octets s k)) j (octet_at s k)) (sym n) ∙ front_more d (octets s k) (octet_at s k) (omega arith))
-
--- WHAT IS FOUND OF A PART
-
-module _ (s : List ℕ) (k : ℕ) (p : List ℕ) (e : p ≡ record_at s k) where
-  pub right_of : {g t : Bool} → g ≡ big s → t ≡ right g p → t ≡ right_at s k
-  right_of eg et = et ∙ rw (eg, e)
-
-  pub layout_of : {b : ℕ} {l : Bool} → b ≡ octet p → l ≡ of_layout b → l ≡ layout_at s k
-  layout_of eb el = el ∙ rw (eb, e)
-
-  pub octet_of : {b : ℕ} → b ≡ octet p → b ≡ octet_at s k
-  octet_of eb = eb ∙ rw e

@@ -1,4 +1,5 @@
 -- Each byte that is read matters: where an event is handed out, the other bytes that are read and the event settle it. Assumes nothing.
+use Rattle.std.specs.Prelude.{Some, Ok}
 use mathlib.Core.Path.{◌≡◌, refl, sym, ap, ◌∙◌}
 use mathlib.Core.Bool.{Bool, true, false}
 use mathlib.Core.List.{List}
@@ -13,7 +14,6 @@ use Rattle.capture.specs.Fields as field
 use Rattle.capture.specs.Fields.{Field, IsRead, of_header, of_record}
 use Rattle.capture.specs.Reading.{taken_at}
 use Rattle.capture.specs.Laws.{EachRead}
-use Rattle.capture.specs.declared.answer.Taken.TheVariants.{Event}
 use Rattle.capture.proofs.Alike.{fours_same, record_byte}
 use Rattle.capture.proofs.Fields.{header_passes, record_passes}
 use Rattle.capture.proofs.Handing as handing
@@ -130,7 +130,7 @@ record Known (s : List ℕ) (k b : ℕ) (order : Bool) : Type 0 where
   event_at : byte s (header_size + record_size * k + 16) ≡ b
   there : header_size + record_size * k + record_size ≤ length s
 
-known : (s : List ℕ) (k b : ℕ) → taken_at s k ≡ Event b → Known s k b (big s)
+known : (s : List ℕ) (k b : ℕ) → taken_at s k ≡ Ok (Some b) → Known s k b (big s)
 known s k b e =
     let r = handing.read s k b e in
     let g = (header_passes s).0 r.header in

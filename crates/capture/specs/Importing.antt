@@ -1,33 +1,26 @@
 -- Request L1: what a whole import answers, and what it leaves in the buffer. Assumes nothing.
-use Rattle.std.specs.Prelude.{◌≡◌, Bool, true, false, not, List, ℕ, eqb, leb, length}
-use Rattle.std.proofs.Math.Option.{Option, some, none}
+use Rattle.std.specs.Prelude.{◌≡◌, Bool, not, Option, List, ℕ, eqb, leb, length, Ok, Err}
+use Rattle.std.specs.List.{range_with_len, position}
+use Rattle.std.specs.Option.{unwrap_or}
 use Rattle.lent.specs.Lent.{front}
 use Rattle.model.specs.Limits.{most_events}
-use Rattle.table.specs.First.{first}
 use Rattle.capture.specs.Capture.{headed, records, right_at, layout_at, events_of}
-use Rattle.capture.specs.declared.answer.Refusal.{Refusal}
 use Rattle.capture.specs.declared.answer.Refusal.TheVariants as refusal
-use Rattle.capture.specs.declared.answer.Imported.{Imported}
-use Rattle.capture.specs.declared.answer.Imported.TheVariants.{Good, Refused}
+use Rattle.capture.specs.Answers.{Imported, must}
+
+-- The first of the numbers below n that fails a test.
+abbrev pub first_failing : (ℕ → Bool) → ℕ → Option ℕ
+first_failing test n = position (λ k. not (test k)) (range_with_len 0 n)
 
 -- How many records come before the first that fails a test; all of them, if there is none.
-abbrev pub or_else : Option ℕ → ℕ → ℕ
-or_else none n = n
-or_else (some k) n = k
-
 unfoldable pub passing : (ℕ → Bool) → ℕ → ℕ
-passing test n = or_else (first (λ (k : ℕ). not (test k)) n) n
+passing test n = unwrap_or (first_failing test n) n
 
 abbrev pub right_records : List ℕ → ℕ
 right_records s = passing (right_at s) (records s)
 
 abbrev pub layout_records : List ℕ → ℕ
 layout_records s = passing (layout_at s) (records s)
-
--- One test before others: where it fails, its refusal is the answer.
-abbrev pub must : Bool → Refusal → Imported → Imported
-must true r others = others
-must false r others = Refused r
 
 -- Refusals: 15, then 16 the first record short or with another length, then 9 above 1,048,576 records, 7, and 10 with the length needed.
 unfoldable pub verdict : Bool → ℕ → ℕ → ℕ → ℕ → Imported
@@ -36,15 +29,15 @@ verdict head n right layout room =
     (must (eqb right n) (refusal.Record right)
     (must (leb n most_events) (refusal.Events n)
     (must (eqb layout n) (refusal.Event layout)
-    (must (leb n room) (refusal.Buffer n) (Good n)))))
+    (must (leb n room) (refusal.Buffer n) (Ok n)))))
 
 unfoldable pub imported : List ℕ → ℕ → Imported
 imported s room = verdict (headed s) (records s) (right_records s) (layout_records s) room
 
 -- A whole import writes one byte a record and keeps later bytes; a refused one writes nothing.
 abbrev pub after : Imported → List ℕ → List ℕ → List ℕ
-after (Good n) d p = front d p
-after (Refused r) d p = d
+after (Ok n) d p = front d p
+after (Err r) d p = d
 
 -- The import of the capture s into the buffer d: the answer, and the buffer afterwards.
 pub record Imports (s d : List ℕ) (r : Imported) (d' : List ℕ) : Type 0 where

@@ -1,8 +1,7 @@
 -- What is shown of captures, each under one sentence. proofs/Laws.antt proves them all. Assumes nothing.
-use Rattle.std.specs.Prelude.{◌≡◌, Bool, true, false, List, [], ◌∷◌, ◌↔◌, ◌⊎◌, ℕ, ◌+◌, ◌≤◌, ◌<◌, length, take, drop, get_or, set}
+use Rattle.std.specs.Prelude.{◌≡◌, Bool, true, false, List, [], ◌∷◌, ◌↔◌, ◌⊎◌, ℕ, ◌+◌, ◌≤◌, ◌<◌, length, take, drop, get_or, set, Some, None, Ok, Err}
 use Rattle.model.specs.Limits.{most_inputs, most_outputs, most_events}
 use Rattle.table.specs.Bytes.{symbol_of}
-use Rattle.table.specs.declared.answer.Symbol.TheVariants.{Invalid}
 use Rattle.capture.specs.Limits.{header_size, record_size, magic, version_major, version_minor, link_type}
 use Rattle.capture.specs.Capture.{byte, two, four, two_at, four_at, big, headed, records, right, right_at, octet_at}
 use Rattle.capture.specs.Capture.{of_layout, layout_at, octets, events_of, GoodCapture}
@@ -11,10 +10,7 @@ use Rattle.capture.specs.Fields.{IsRead, SameFor, SameFields}
 use Rattle.capture.specs.Importing.{imported, Imports}
 use Rattle.capture.specs.declared.answer.Refusal.{Refusal}
 use Rattle.capture.specs.declared.answer.Refusal.TheVariants as refusal
-use Rattle.capture.specs.declared.answer.Taken.{Taken}
-use Rattle.capture.specs.declared.answer.Taken.TheVariants as taken
-use Rattle.capture.specs.declared.answer.Imported.{Imported}
-use Rattle.capture.specs.declared.answer.Imported.TheVariants.{Good, Refused}
+use Rattle.capture.specs.Answers.{Imported, Taken}
 
 -- THE BYTES
 
@@ -51,7 +47,7 @@ abbrev pub LayoutIs : Type 0
 LayoutIs = (x : ℕ) → of_layout x ≡ true ↔ ((x < 16) ⊎ ((128 ≤ x) × (x < 144)))
 
 abbrev pub LayoutValid : Type 0
-LayoutValid = (x : ℕ) → of_layout x ≡ true ↔ (symbol_of x most_inputs most_outputs ≡ Invalid → ⊥)
+LayoutValid = (x : ℕ) → of_layout x ≡ true ↔ (symbol_of x most_inputs most_outputs ≡ None → ⊥)
 
 -- One byte a record, in order.
 abbrev pub OneEach : Type 0
@@ -65,14 +61,14 @@ AllOfLayout = (s : List ℕ) → GoodCapture s → (k : ℕ) → k < length (eve
 
 -- Each call tests 15, then at its record 16, 9 (place the index plus one) and 7; past the last byte it reports the end.
 pub data Takes (s : List ℕ) (i : ℕ) : Taken → Type 0 where
-  unheaded : headed s ≡ false → Takes s i (taken.Refused refusal.Header)
-  ended : headed s ≡ true → records s ≤ i → Takes s i taken.End
-  wrong : headed s ≡ true → i < records s → right_at s i ≡ false → Takes s i (taken.Refused (refusal.Record i))
-  over : headed s ≡ true → i < records s → right_at s i ≡ true → most_events ≤ i → Takes s i (taken.Refused (refusal.Events (i + 1)))
+  unheaded : headed s ≡ false → Takes s i (Err refusal.Header)
+  ended : headed s ≡ true → records s ≤ i → Takes s i (Ok None)
+  wrong : headed s ≡ true → i < records s → right_at s i ≡ false → Takes s i (Err (refusal.Record i))
+  over : headed s ≡ true → i < records s → right_at s i ≡ true → most_events ≤ i → Takes s i (Err (refusal.Events (i + 1)))
   strange : headed s ≡ true → i < records s → right_at s i ≡ true → i < most_events → layout_at s i ≡ false
-      → Takes s i (taken.Refused (refusal.Event i))
+      → Takes s i (Err (refusal.Event i))
   handed : headed s ≡ true → i < records s → right_at s i ≡ true → i < most_events → layout_at s i ≡ true
-      → Takes s i (taken.Event (octet_at s i))
+      → Takes s i (Ok (Some (octet_at s i)))
 
 abbrev pub TakesExactly : Type 0
 TakesExactly = (s : List ℕ) (i : ℕ) (t : Taken) → Takes s i t ↔ (t ≡ taken_at s i)
@@ -80,7 +76,7 @@ TakesExactly = (s : List ℕ) (i : ℕ) (t : Taken) → Takes s i t ↔ (t ≡ t
 -- Calls of a reader at place i hand out the bytes, one a call, and leave it at place j.
 pub data HandedOut (s : List ℕ) : ℕ → List ℕ → ℕ → Type 0 where
   no_more : {i : ℕ} → HandedOut s i [] i
-  call : {i j b : ℕ} {bytes : List ℕ} → taken_at s i ≡ taken.Event b → HandedOut s (place_after (taken_at s i) i) bytes j
+  call : {i j b : ℕ} {bytes : List ℕ} → taken_at s i ≡ Ok (Some b) → HandedOut s (place_after (taken_at s i) i) bytes j
       → HandedOut s i (b ∷ bytes) j
 
 -- From its start a reader hands out the octets of the records it has passed, in order.
@@ -90,7 +86,7 @@ InOrder = (s bytes : List ℕ) (j : ℕ) → HandedOut s 0 bytes j → (bytes �
 -- Called to its end it has handed out exactly the capture's events, and the capture is good.
 pub record CalledToItsEnd (s bytes : List ℕ) (j : ℕ) : Type 0 where
   pub calls : HandedOut s 0 bytes j
-  pub end : taken_at s j ≡ taken.End
+  pub end : taken_at s j ≡ Ok None
 
 abbrev pub ExactlyTheEvents : Type 0
 ExactlyTheEvents = (s bytes : List ℕ) (j : ℕ) → CalledToItsEnd s bytes j → GoodCapture s × (bytes ≡ events_of s) × (j ≡ records s)
@@ -102,7 +98,7 @@ ComesToItsEnd = (s : List ℕ) → GoodCapture s → CalledToItsEnd s (events_of
 -- The end stays the end, and a refusal leaves the reader there: it hands out the same again.
 abbrev pub LeftThere : Type 0
 LeftThere =
-    (s : List ℕ) (i : ℕ) (t : Taken) → t ≡ taken_at s i → ((b : ℕ) → t ≡ taken.Event b → ⊥)
+    (s : List ℕ) (i : ℕ) (t : Taken) → t ≡ taken_at s i → ((b : ℕ) → t ≡ Ok (Some b) → ⊥)
     → (place_after t i ≡ i) × (taken_at s (place_after t i) ≡ t)
 
 -- THE IMPORT
@@ -110,15 +106,15 @@ LeftThere =
 -- Refusals: 15 header short or wrong, then 16 the first record short or with another length, then 9 above 1,048,576 records, 7, and 10
 -- with the length needed.
 pub data Imported_as (s : List ℕ) (room : ℕ) : Imported → Type 0 where
-  unheaded : headed s ≡ false → Imported_as s room (Refused refusal.Header)
+  unheaded : headed s ≡ false → Imported_as s room (Err refusal.Header)
   wrong : {k : ℕ} → headed s ≡ true → k < records s → ((j : ℕ) → j < k → right_at s j ≡ true) → right_at s k ≡ false
-      → Imported_as s room (Refused (refusal.Record k))
+      → Imported_as s room (Err (refusal.Record k))
   over : headed s ≡ true → ((j : ℕ) → j < records s → right_at s j ≡ true) → most_events < records s
-      → Imported_as s room (Refused (refusal.Events (records s)))
+      → Imported_as s room (Err (refusal.Events (records s)))
   strange : {k : ℕ} → headed s ≡ true → ((j : ℕ) → j < records s → right_at s j ≡ true) → records s ≤ most_events → k < records s
-      → ((j : ℕ) → j < k → layout_at s j ≡ true) → layout_at s k ≡ false → Imported_as s room (Refused (refusal.Event k))
-  short : GoodCapture s → room < records s → Imported_as s room (Refused (refusal.Buffer (records s)))
-  good : GoodCapture s → records s ≤ room → Imported_as s room (Good (records s))
+      → ((j : ℕ) → j < k → layout_at s j ≡ true) → layout_at s k ≡ false → Imported_as s room (Err (refusal.Event k))
+  short : GoodCapture s → room < records s → Imported_as s room (Err (refusal.Buffer (records s)))
+  good : GoodCapture s → records s ≤ room → Imported_as s room (Ok (records s))
 
 abbrev pub ImportsExactly : Type 0
 ImportsExactly = (s : List ℕ) (room : ℕ) (r : Imported) → Imported_as s room r ↔ (r ≡ imported s room)
@@ -130,7 +126,7 @@ OneImport =
 
 -- A refused import writes nothing.
 abbrev pub NothingWritten : Type 0
-NothingWritten = (s d : List ℕ) (r : Refusal) (d' : List ℕ) → Imports s d (Refused r) d' → d' ≡ d
+NothingWritten = (s d : List ℕ) (r : Refusal) (d' : List ℕ) → Imports s d (Err r) d' → d' ≡ d
 
 -- A whole import writes one byte a record, the capture's events, and keeps later bytes.
 pub record Written (s d : List ℕ) (n : ℕ) (d' : List ℕ) : Type 0 where
@@ -141,19 +137,19 @@ pub record Written (s d : List ℕ) (n : ℕ) (d' : List ℕ) : Type 0 where
   pub later : drop n d' ≡ drop n d
 
 abbrev pub WhatIsWritten : Type 0
-WhatIsWritten = (s d : List ℕ) (n : ℕ) (d' : List ℕ) → Imports s d (Good n) d' → Written s d n d'
+WhatIsWritten = (s d : List ℕ) (n : ℕ) (d' : List ℕ) → Imports s d (Ok n) d' → Written s d n d'
 
 -- THE TWO AGREE
 
 -- What a good import writes is what the reader hands out when it is called to its end, and it can be.
 abbrev pub ReadAsImported : Type 0
-ReadAsImported = (s d : List ℕ) (n : ℕ) (d' : List ℕ) → Imports s d (Good n) d' → CalledToItsEnd s (take n d') n
+ReadAsImported = (s d : List ℕ) (n : ℕ) (d' : List ℕ) → Imports s d (Ok n) d' → CalledToItsEnd s (take n d') n
 
 -- A capture whose reader comes to its end is imported wherever there is room, and the same is written.
 abbrev pub ImportedAsRead : Type 0
 ImportedAsRead =
     (s bytes : List ℕ) (j : ℕ) (d : List ℕ) (r : Imported) (d' : List ℕ) → CalledToItsEnd s bytes j → Imports s d r d' → j ≤ length d
-    → (r ≡ Good j) × (take j d' ≡ bytes)
+    → (r ≡ Ok j) × (take j d' ≡ bytes)
 
 -- THE FIELDS
 
@@ -174,5 +170,5 @@ ImportedAlike = (s t : List ℕ) → SameFields s t → Alike s t
 -- and it hands out that event no more.
 abbrev pub EachRead : Type 0
 EachRead =
-    (s : List ℕ) (k i b x : ℕ) → ((j : ℕ) → byte s j < 256) → IsRead k i → taken_at s k ≡ taken.Event b
-    → x < 256 → (x ≡ byte s i → ⊥) → taken_at (set s i x) k ≡ taken.Event b → ⊥
+    (s : List ℕ) (k i b x : ℕ) → ((j : ℕ) → byte s j < 256) → IsRead k i → taken_at s k ≡ Ok (Some b)
+    → x < 256 → (x ≡ byte s i → ⊥) → taken_at (set s i x) k ≡ Ok (Some b) → ⊥

@@ -10,18 +10,15 @@ mod bytes;
 pub mod reader;
 mod whole;
 
-use answer::is_good;
-pub use answer::{Handed, Imported, Refusal, Taken, tell};
+pub use answer::{Handed, Refusal};
 pub use reader::Reader;
 
 // Imports a capture: one byte a record, to the start of the buffer; later bytes keep their values. A refused import writes nothing.
-pub fn import(capture: &[u8], events: &mut [u8]) -> Imported
+#[tactic(auto, using(crate::proofs::Imports::room_for))]
+pub fn import(capture: &[u8], events: &mut [u8]) -> Result<usize, Refusal>
     ensures { Imports capture.now events.old result events.new }
 {
-    let judged = whole::judge(capture, events.len());
-    if !is_good(judged) {
-        return judged;
-    }
+    let count = whole::judge(capture, events.len())?;
     whole::gather(capture, events);
-    judged
+    Ok(count)
 }

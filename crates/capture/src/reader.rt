@@ -1,10 +1,11 @@
 // A reader holds a capture's bytes and its place in them, and hands out one event at a time. `taken_at` does the work of each record, on
-// the slice and the number; over the struct there are few functions, and each takes it apart.
-ghost use Rattle.std.specs.Prelude.{◌≡◌, ◌+◌, ◌<◌, ◌^◌};
-ghost use Rattle.capture.specs.Reading.{tested, taken_at, place_after, handed, handed_at};
+// the slice and the number.
+ghost use Rattle.std.specs.Prelude.{◌≡◌};
+ghost use Rattle.capture.specs.Reading.{taken_at, place_after, handed_at};
 
-use super::answer::{Handed, MOST_EVENTS, Refusal, Taken, after};
+use super::answer::{Handed, Refusal};
 use super::bytes;
+use session::MOST_EVENTS;
 
 // The place is the next record's index.
 #[derive(Clone, Copy)]
@@ -13,71 +14,63 @@ pub struct Reader<'a> {
     pub place: usize,
 }
 
-// The first test of record i that fails gives the answer: 16, 9, 7.
-fn tested(right: bool, few: bool, layout: bool, i: usize, byte: u8) -> Taken
-    requires { i + 1 < 2 ^ 64 }
-    ensures { result ≡ tested right few layout i byte }
-{
-    if !right {
-        return Taken::Refused(Refusal::Record(i));
-    }
-    if !few {
-        return Taken::Refused(Refusal::Events(i + 1));
-    }
-    if layout {
-        return Taken::Event(byte);
-    }
-    Taken::Refused(Refusal::Event(i))
-}
-
-// What record i gives: 15 comes first, also past the last byte.
-pub(crate) fn taken_at(capture: &[u8], i: usize) -> Taken
+// What record i gives: 15 comes first, also past the last byte, and then the first of its tests that fails, 16, 9, 7.
+#[tactic(auto, unfolding(crate::specs::Reading::taken_at, crate::specs::Reading::tested))]
+pub(crate) fn taken_at(capture: &[u8], i: usize) -> Result<Option<u8>, Refusal>
     ensures { result ≡ taken_at capture.now i }
 {
     if !bytes::headed(capture) {
-        return Taken::Refused(Refusal::Header);
+        return Err(Refusal::Header);
     }
-    let part = bytes::record_at(capture, i);
-    if part.len() == 0 {
-        return Taken::End;
+    let record = bytes::record_at(capture, i);
+    if record.is_empty() {
+        return Ok(None);
     }
-    let byte = bytes::octet(part);
-    let right = bytes::right(bytes::big(capture), part);
-    tested(right, i < MOST_EVENTS, bytes::of_layout(byte), i, byte)
+    if !bytes::right(bytes::big(capture), record) {
+        return Err(Refusal::Record(i));
+    }
+    if MOST_EVENTS <= i {
+        return Err(Refusal::Events(i + 1));
+    }
+    let byte = bytes::octet(record);
+    if !bytes::of_layout(byte) {
+        return Err(Refusal::Event(i));
+    }
+    Ok(Some(byte))
 }
 
-// A reader at a place; at place 0 it is at the capture's start.
-pub fn open_at<'a>(capture: &'a [u8], place: usize) -> Reader<'a>
-    ensures { (result.capture ≡ capture.entry) × (result.place ≡ place) }
-{
-    Reader { capture, place }
+impl<'a> Reader<'a> {
+    // A reader at a place; at place 0 it is at the capture's start.
+    pub fn open_at(capture: &'a [u8], place: usize) -> Reader<'a>
+        ensures capture { result.capture ≡ capture.entry }
+        ensures place { result.place ≡ place }
+    {
+        Reader { capture, place }
+    }
+
+    // Hands out one event and moves on. At the end it stays there, and a refusal leaves it where it is.
+    #[tactic(auto, using(crate::proofs::Handing::few))]
+    pub fn take(&mut self) -> Result<Option<u8>, Refusal>
+        ensures answer { result ≡ taken_at self.old.capture.now self.old.place }
+        ensures capture { self.new.capture ≡ self.old.capture }
+        ensures place { self.new.place ≡ place_after (taken_at self.old.capture.now self.old.place) self.old.place }
+    {
+        let taken = taken_at(self.capture, self.place);
+        if let Ok(Some(_)) = taken {
+            self.place += 1;
+        }
+        taken
+    }
 }
 
-// Hands out one event and moves on. At the end it stays there, and a refusal leaves it where it is.
-pub fn take<'s, 'a>(r: &'s mut Reader<'a>) -> Taken
-    ensures { (result ≡ taken_at r.old.capture.now r.old.place) × ((r.new.capture ≡ r.old.capture) × (r.new.place ≡ place_after (taken_at r.old.capture.now r.old.place) r.old.place)) }
-{
-    let s = r.capture;
-    let at = r.place;
-    let got = taken_at(s, at);
-    let to = after(got, at);
-    r.place = to;
-    got
-}
-
-fn handed(taken: Taken, place: usize) -> Handed
-    ensures { result ≡ handed taken place }
-{
-    Handed { taken, place }
-}
-
-// One call of a reader at a place: what it hands out, and its place then. The parameters are plain, so whoever calls this has no struct to
-// take apart.
+// One call of a reader at a place: what it hands out, and its place then.
 pub fn hand(capture: &[u8], place: usize) -> Handed
     ensures { result ≡ handed_at capture.now place }
 {
-    let mut r = open_at(capture, place);
-    let taken = take(&mut r);
-    let then = r.place;
-    handed(taken, then)
+    let mut reader = Reader::open_at(capture, place);
+    let taken = reader.take();
+    Handed {
+        taken,
+        place: reader.place,
+    }
 }

@@ -1,7 +1,7 @@
 -- Every statement of specs/Laws.antt, proved. Assumes nothing.
+use Rattle.std.specs.Prelude.{Some, None, Ok, Err}
 use mathlib.Core.Path.{◌≡◌, refl, sym, ap, ◌∙◌}
 use mathlib.Core.Bool.{Bool, true, false}
-use Rattle.table.proofs.Checks.{clash}
 use Rattle.lent.specs.Lent.{front}
 use lib.ListN.{length}
 use borrow.Author.Tests.{leb-false, lt-leb}
@@ -9,10 +9,7 @@ use Rattle.capture.specs.Reading.{handed_at}
 use Rattle.capture.specs.Refusals.{told, told_imported, told_taken}
 use Rattle.capture.specs.declared.answer.Refusal.{Refusal}
 use Rattle.capture.specs.declared.answer.Refusal.TheVariants.{Header, Record, Events, Event, Buffer}
-use Rattle.capture.specs.declared.answer.Imported.{Imported}
-use Rattle.capture.specs.declared.answer.Imported.TheVariants as imported
-use Rattle.capture.specs.declared.answer.Taken.{Taken}
-use Rattle.capture.specs.declared.answer.Taken.TheVariants as taken
+use Rattle.capture.specs.Answers.{Imported, Taken}
 use Rattle.capture.proofs.Laws.{one_import}
 use Rattle.capturedoors.specs.Results.{import_size, import_results, hand_size}
 use Rattle.capturedoors.specs.Results as doors
@@ -20,7 +17,7 @@ use Rattle.capturedoors.specs.Laws.{ImportingTellsOnePlace, HandingTellsOnePlace
 
 -- memory is not both too short and long enough
 not_both : {A : Type 0} {r : Bool} → r ≡ false → r ≡ true → A
-not_both e f = let h = sym e ∙ f in clash (cc)
+not_both e f = let h = sym e ∙ f in absurd (cc)
 
 -- no refusal of a capture has a second place
 one_place : (r : Refusal) → (told r).second ≡ 0
@@ -35,16 +32,16 @@ pub importing_tells_one_place : ImportingTellsOnePlace
 importing_tells_one_place s d t d' t' (doors.imports {r} e f) = go r
   where
     go : (r : Imported) → (told_imported r).second ≡ 0
-    go (imported.Good _) = refl
-    go (imported.Refused r) = one_place r
+    go (Ok _) = refl
+    go (Err r) = one_place r
 
 pub handing_tells_one_place : HandingTellsOnePlace
 handing_tells_one_place s i t t' (doors.hands e) = go (handed_at s i).taken
   where
     go : (r : Taken) → (told_taken r).second ≡ 0
-    go (taken.Event _) = refl
-    go taken.End = refl
-    go (taken.Refused r) = one_place r
+    go (Ok (Some _)) = refl
+    go (Ok None) = refl
+    go (Err r) = one_place r
 
 pub importing_false : ImportingFalse
 importing_false s d t a d' t' (doors.Importing.short e) = (λ _. leb-false import_size (length t) e, λ _. refl)

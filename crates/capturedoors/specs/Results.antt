@@ -1,14 +1,12 @@
 -- What each function of this crate answers and leaves in the memory lent to it, for every input. Its answer is false exactly when the
 -- memory for its results is too short, and then nothing is written. What is longer keeps the rest. Assumes nothing.
-use Rattle.std.specs.Prelude.{◌≡◌, Bool, true, false, List, [], ◌∷◌, ℕ, leb, length}
+use Rattle.std.specs.Prelude.{◌≡◌, Bool, true, false, List, [], ◌∷◌, ℕ, leb, length, Some, None, Ok, Err}
 use Rattle.lent.specs.Lent.{front}
 use Rattle.capture.specs.Importing.{Imports}
 use Rattle.capture.specs.Reading.{handed_at}
 use Rattle.capture.specs.Refusals.{told_imported, count_imported, told_taken, event_taken}
 use Rattle.capture.specs.declared.answer.Handed.{Handed}
-use Rattle.capture.specs.declared.answer.Imported.{Imported}
-use Rattle.capture.specs.declared.answer.Taken.{Taken}
-use Rattle.capture.specs.declared.answer.Taken.TheVariants.{Event, End, Refused}
+use Rattle.capture.specs.Answers.{Imported, Taken}
 
 -- An import: the number, both places, as every function tells them, and how many events were written.
 abbrev pub import_size : ℕ
@@ -22,9 +20,9 @@ abbrev pub hand_size : ℕ
 hand_size = 6
 
 abbrev pub event_told : Taken → ℕ
-event_told (Event byte) = 1
-event_told End = 0
-event_told (Refused r) = 0
+event_told (Ok (Some byte)) = 1
+event_told (Ok None) = 0
+event_told (Err r) = 0
 
 abbrev pub hand_results : Handed → List ℕ
 hand_results h =

@@ -1,87 +1,82 @@
 // The numbers of a line.
+use arrayvec::ArrayVec;
 
 // The most numbers that a line may have; those after them are left out.
 const MOST: usize = 64;
 
-#[derive(Clone, Copy)]
+#[derive(Drop)]
 pub struct Figures {
-    values: [usize; MOST],
-    pub count: usize,
-    // The number that is being read, if any, and what is added to it: 128 after an `o`.
-    inside: bool,
-    value: usize,
+    values: ArrayVec<usize, MOST>,
+}
+
+// The number that is being read, if any, and what is added to it: 128 after an `o`.
+#[derive(Clone, Copy)]
+struct Number {
+    value: Option<usize>,
     base: usize,
 }
 
-// A number of more than 19 digits keeps its first 19.
-fn digit(mut f: Figures, d: u8) -> Figures {
-    f.inside = true;
-    if f.value < 1000000000000000000 {
-        f.value = f.value * 10 + d as usize;
+impl Number {
+    // A number of more than 19 digits keeps its first 19.
+    fn digit(&mut self, digit: u8) {
+        let value = self.value.unwrap_or(0);
+        self.value = Some(if value < 1000000000000000000 {
+            value * 10 + usize::from(digit)
+        } else {
+            value
+        });
     }
-    f
 }
 
-// The number that was being read is one of the line's; one that begins right here has the base.
-fn ended(mut f: Figures, base: usize) -> Figures {
-    let k = f.count;
-    if f.inside {
-        if k < MOST {
-            f.values[k] = std::num::wrapping_add_usize(f.value, f.base);
-            f.count = k + 1;
+impl Figures {
+    // The number that was being read is one of the line's; one that begins right here has the base.
+    fn end(&mut self, number: &mut Number, base: usize) {
+        if let Some(value) = number.value {
+            let _ = self.values.try_push(value.wrapping_add(number.base));
         }
+        *number = Number { value: None, base };
     }
-    f.inside = false;
-    f.value = 0;
-    f.base = base;
-    f
-}
 
-fn taken(f: Figures, byte: u8) -> Figures {
-    match byte {
-        48..=57 => digit(f, byte - 48),
-        b'o' => ended(f, 128),
-        _ => ended(f, 0),
-    }
-}
-
-pub fn read(line: &[u8]) -> Figures {
-    let mut f = Figures {
-        values: [0; MOST],
-        count: 0,
-        inside: false,
-        value: 0,
-        base: 0,
-    };
-    let mut i = 0;
-    while i < line.len() {
-        let next = taken(f, line[i]);
-        f = next;
-        i += 1;
-    }
-    ended(f, 0)
-}
-
-// The number at a place of the line, or the other where the line has fewer.
-pub fn at(f: Figures, k: usize, other: usize) -> usize {
-    if k < f.count {
-        if k < MOST {
-            return f.values[k];
+    pub fn read(line: &[u8]) -> Figures {
+        let mut figures = Figures {
+            values: ArrayVec::new(),
+        };
+        let mut number = Number {
+            value: None,
+            base: 0,
+        };
+        for byte in line {
+            match *byte {
+                b'0'..=b'9' => number.digit(*byte - b'0'),
+                b'o' => figures.end(&mut number, 128),
+                _ => figures.end(&mut number, 0),
+            }
         }
+        figures.end(&mut number, 0);
+        figures
     }
-    other
+
+    // The numbers from a place on.
+    pub fn from(&self, k: usize) -> &[usize] {
+        self.values.as_slice().get(k..).unwrap_or(&[])
+    }
+
+    // The number at a place of the line, or the other where the line has fewer.
+    pub fn at(&self, k: usize, other: usize) -> usize {
+        self.values.as_slice().get(k).copied().unwrap_or(other)
+    }
+
+    // The number at a place, as a byte; 0 where the line has fewer.
+    pub fn byte_at(&self, k: usize) -> u8 {
+        byte(self.at(k, 0))
+    }
+
+    // The last number of the line, as a byte.
+    pub fn last(&self) -> u8 {
+        byte(self.values.as_slice().last().copied().unwrap_or(0))
+    }
 }
 
-// The number at a place, as a byte; 0 where the line has fewer.
-pub fn byte_at(f: Figures, k: usize) -> u8 {
-    (at(f, k, 0) % 256) as u8
-}
-
-// The last number of the line, as a byte.
-pub fn last(f: Figures) -> u8 {
-    let n = f.count;
-    if n == 0 {
-        return 0;
-    }
-    byte_at(f, n - 1)
+pub fn byte(n: usize) -> u8 {
+    (n % 256) as u8
 }

@@ -28,7 +28,6 @@ mod figures;
 mod openings;
 mod print;
 mod runs;
-mod same;
 mod script;
 mod view;
 

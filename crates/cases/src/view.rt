@@ -1,37 +1,39 @@
 // What a session carries.
 use crate::figures::Figures;
-use crate::{figures, print, same};
-use session::{Session, sound};
+use crate::print;
+use session::Session;
 use std::io;
 
-fn counts(rt: &impl Print, s: Session) -> io::Result<()> {
-    print::byte(rt, s.states)?;
-    print::byte(rt, s.inputs)?;
-    print::byte(rt, s.outputs)?;
-    print::byte(rt, s.waiting)?;
-    print::byte(rt, s.losses)
-}
+// A session of zeros only, with no flag.
+const ZEROS: Session = Session {
+    states: 0,
+    inputs: 0,
+    outputs: 0,
+    rows: [0; 2048],
+    waiting: 0,
+    losses: 0,
+    set: [0; 264],
+    held: [0; 32],
+    events: 0,
+    arrived: 0,
+    flag: None,
+};
 
-fn judged(rt: &impl Print, s: Session) -> io::Result<()> {
-    if sound::sound(s) {
-        print::text(rt, b" sound")?;
+// States, inputs, outputs, B and c; the set, counts and flag; the held inputs; and `sound` or `zeros`, where the session is.
+pub fn view(rt: &impl Print, s: &Session) -> io::Result<()> {
+    print::bytes(rt, &[s.states, s.inputs, s.outputs, s.waiting, s.losses])?;
+    print::session(rt, s)?;
+    print::held(rt, s)?;
+    if s.is_sound() {
+        print!(rt; " sound")?;
     }
-    if same::zero(s) {
-        print::text(rt, b" zeros")?;
+    if *s == ZEROS {
+        print!(rt; " zeros")?;
     }
     Ok(())
 }
 
-// States, inputs, outputs, B and c; the set, counts and flag; the held inputs; and `sound` or `zeros`, where the session is.
-pub fn view(rt: &impl Print, s: Session) -> io::Result<()> {
-    counts(rt, s)?;
-    print::session(rt, s)?;
-    print::held(rt, s)?;
-    judged(rt, s)
-}
-
 // The row's own number, where it begins, and how long it is.
-pub fn row(rt: &impl Print, s: Session, f: Figures) -> io::Result<()> {
-    let rows = s.rows;
-    print::part(rt, &rows, figures::at(f, 1, 0), figures::at(f, 2, 0))
+pub fn row(rt: &impl Print, s: &Session, f: &Figures) -> io::Result<()> {
+    print::part(rt, &s.rows, f.at(1, 0), f.at(2, 0))
 }

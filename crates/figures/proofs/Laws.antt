@@ -1,13 +1,13 @@
 -- Every statement of specs/Laws.antt, proved. Assumes nothing.
+use Rattle.std.specs.Prelude.{Some, None}
 use Rattle.std.proofs.Common.{zero, suc, refl, add-one, arith}
-use Rattle.session.specs.declared.Flag.TheVariants as flag
 use Rattle.figures.specs.Figures.{flag_word, flag_in}
 use Rattle.figures.specs.Laws.{FlagBack, FlagKept, NoneFits, PlaceFits}
 
 pub flag_back : FlagBack
 unfolding flag_word flag_in
-flag_back flag.None = refl
-flag_back (flag.At place) = rw add-one
+flag_back None = refl
+flag_back (Some place) = rw add-one
 
 pub flag_kept : FlagKept
 unfolding flag_word flag_in

@@ -8,9 +8,9 @@ use lib.ListN.{length}
 use borrow.Author.Tests.{leb-true}
 use Rattle.lent.specs.Lent.{front, put_at}
 use Rattle.lent.proofs.Laws.{put_start}
-use Rattle.run.specs.declared.Ran.{Ran}
+use Rattle.run.specs.Ran.{Ran}
 use Rattle.run.specs.Run.{Runs}
-use Rattle.house.specs.declared.answer.Reading.{Reading}
+use Rattle.house.specs.Verdict.{Reading}
 use Rattle.house.specs.Reading.{Answers}
 use Rattle.table.proofs.Checks.{both}
 use Rattle.lister.specs.declared.Summary.{Summary}

@@ -7,9 +7,9 @@ use Prim.Native.Nat.{ℕ, ◌≤◌, ◌<◌}
 use lib.Dec.{leb}
 use Rattle.lent.specs.Lent.{front}
 use Rattle.table.proofs.Checks.{clash, both}
-use Rattle.run.specs.declared.Ran.{Ran}
+use Rattle.run.specs.Ran.{Ran}
 use Rattle.run.proofs.Laws.{one_run}
-use Rattle.house.specs.declared.answer.Reading.{Reading}
+use Rattle.house.specs.Verdict.{Reading}
 use Rattle.house.proofs.Laws.{one_reading}
 use lib.ListN.{length}
 use borrow.Author.Tests.{leb-true, leb-false, lt-leb}

@@ -1,9 +1,9 @@
 -- What each function of this crate answers and leaves in the memory lent to it, for every input. Its answer is false exactly when the
 -- memory for its results, or for a listing, is too short, and then nothing is written. What is longer keeps the rest. Assumes nothing.
 use Rattle.std.specs.Prelude.{◌≡◌, Bool, true, false, ◌&&◌, List, ℕ, leb, length}
-use Rattle.run.specs.declared.Ran.{Ran}
+use Rattle.run.specs.Ran.{Ran}
 use Rattle.run.specs.Run.{Runs}
-use Rattle.house.specs.declared.answer.Reading.{Reading}
+use Rattle.house.specs.Verdict.{Reading}
 use Rattle.lent.specs.Lent.{front}
 use Rattle.house.specs.Reading.{Answers}
 use Rattle.lister.specs.Putting.{text_room, Texts}

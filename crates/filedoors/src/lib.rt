@@ -13,6 +13,7 @@ ghost use Rattle.filedoors.specs.Doors.{Running, Read, Listing, outcome_number};
 
 use house;
 use lister::Outcome;
+use table::Rules;
 
 mod results;
 
@@ -34,10 +35,16 @@ pub extern "C" fn rillmoth_run<'a>(
     if told.len() < results::RUN {
         return false;
     }
-    let ran = run::run(
-        rows, states, inputs, outputs, waiting, losses, trace, &mut *out,
-    );
-    lent::put_words(&results::of_run(ran), &mut *told, 0);
+    let rules = Rules {
+        rows,
+        states,
+        inputs,
+        outputs,
+        waiting,
+        losses,
+    };
+    let ran = run::run(&rules, trace, out);
+    lent::put(&results::of_run(ran), told, 0);
     true
 }
 
@@ -54,8 +61,8 @@ pub extern "C" fn rillmoth_read(
     if told.len() < results::READ {
         return false;
     }
-    let reading = house::read(file, &mut *rows, &mut *events);
-    lent::put_words(&results::of_read(reading), &mut *told, 0);
+    let reading = house::read(file, rows, events);
+    lent::put(&results::of_read(reading), told, 0);
     true
 }
 
@@ -63,10 +70,7 @@ pub extern "C" fn rillmoth_read(
 fn roomy(out: usize, told: usize) -> bool
     ensures { result ≡ (leb text_room out && leb listing_size told) }
 {
-    if out < lister::LISTING_ROOM {
-        return false;
-    }
-    results::LISTING <= told
+    lister::LISTING_ROOM <= out && results::LISTING <= told
 }
 
 // Puts the listing of a house file at the start of `out`. The file has this length; of one that is longer than 7,680 bytes, any start that
@@ -83,8 +87,8 @@ pub extern "C" fn rillmoth_listing(
     if !roomy(out.len(), told.len()) {
         return false;
     }
-    let summary = lister::text(file, length, &mut *out);
-    lent::put_words(&results::of_listing(summary), &mut *told, 0);
+    let summary = lister::text(file, length, out);
+    lent::put(&results::of_listing(summary), told, 0);
     true
 }
 

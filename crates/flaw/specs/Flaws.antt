@@ -1,35 +1,27 @@
 -- What is told of a block that is not what it must be: document 01's number 12, and document 02's numbers 20 to 23 in place of 13.
 -- Assumes nothing.
-use Rattle.std.specs.Prelude.{Bool, true, false, List, [], ◌∷◌, ℕ}
+use Rattle.std.specs.Prelude.{Bool, true, false, List, [], ◌∷◌, ℕ, Option, Some, None, Result, Ok, Err}
 use Rattle.table.specs.declared.answer.Told.{Told}
-use Rattle.flaw.specs.declared.Fill as fill
-use Rattle.flaw.specs.declared.Fill.TheVariants.{Zero, Stray}
 use Rattle.flaw.specs.declared.Flaw.{Flaw}
 use Rattle.flaw.specs.declared.Flaw.TheVariants.{Check, Kind, Order, ByteOne, Number, Used, Source, Fill}
 use Rattle.flaw.specs.declared.Seen.{Seen}
-use Rattle.flaw.specs.declared.Test.{Test}
-use Rattle.flaw.specs.declared.Test.TheVariants.{Passed, Failed}
+use Rattle.flaw.specs.Test.{Test}
 
--- TESTS IN THEIR ORDER: the first that fails gives the answer
+-- TESTS IN THEIR ORDER: the first that fails gives the answer, whatever it is that they tell
 
 -- A test that tells what is wrong where it fails.
-abbrev pub must : Bool → Flaw → Test
-must true flaw = Passed
-must false flaw = Failed flaw
-
--- The same of the zero fill.
-abbrev pub of_fill : fill.Fill → Test
-of_fill Zero = Passed
-of_fill (Stray i) = Failed (Fill i)
+abbrev pub must : {E : Type 0} → Bool → E → Result (Unit {0}) E
+must true flaw = Ok tt
+must false flaw = Err flaw
 
 -- One test, and the rest after it.
-abbrev pub then : Test → Test → Test
-then Passed rest = rest
-then (Failed flaw) rest = Failed flaw
+abbrev pub then : {E : Type 0} → Result (Unit {0}) E → Result (Unit {0}) E → Result (Unit {0}) E
+then (Ok _) rest = rest
+then (Err flaw) rest = Err flaw
 
 -- Tests one after another.
-abbrev pub first_of : List Test → Test
-first_of [] = Passed
+abbrev pub first_of : {E : Type 0} → List (Result (Unit {0}) E) → Result (Unit {0}) E
+first_of [] = Ok tt
 first_of (t ∷ []) = t
 first_of (t ∷ u ∷ ts) = then t (first_of (u ∷ ts))
 
@@ -47,7 +39,11 @@ number_test s = first_of (must s.one ByteOne ∷ must s.number Number ∷ [])
 abbrev pub used_test : Seen → Test
 used_test s = must s.used Used
 
--- 23 source or zero fill;
+-- 23 source or zero fill, of which the first byte is told that should be zero and is not;
+abbrev pub of_fill : Option ℕ → Test
+of_fill None = Ok tt
+of_fill (Some i) = Err (Fill i)
+
 abbrev pub fill_test : Seen → Test
 fill_test s = first_of (must s.source Source ∷ of_fill s.fill ∷ [])
 

@@ -1,11 +1,9 @@
 -- What is shown of the flaws, each under one sentence. proofs/Laws.antt proves them all. Assumes nothing.
-use Rattle.std.specs.Prelude.{◌≡◌, true, false, ◌↔◌}
+use Rattle.std.specs.Prelude.{◌≡◌, true, false, ◌↔◌, Some, None, Ok, Err}
 use Rattle.flaw.specs.Flaws.{first_flaw}
-use Rattle.flaw.specs.declared.Fill.TheVariants.{Zero, Stray}
 use Rattle.flaw.specs.declared.Flaw.{Flaw}
 use Rattle.flaw.specs.declared.Flaw.TheVariants.{Check, Kind, Order, ByteOne, Number, Used, Source, Fill}
 use Rattle.flaw.specs.declared.Seen.{Seen}
-use Rattle.flaw.specs.declared.Test.TheVariants.{Passed, Failed}
 
 -- The check passes; then 20, then 21, then 22, then 23 pass too.
 abbrev pub Checked : Seen → Type 0
@@ -21,7 +19,7 @@ abbrev pub Counted : Seen → Type 0
 Counted s = Numbered s × (s.used ≡ true)
 
 abbrev pub Filled : Seen → Type 0
-Filled s = Counted s × (s.source ≡ true) × (s.fill ≡ Zero)
+Filled s = Counted s × (s.source ≡ true) × (s.fill ≡ None)
 
 -- A flaw is there, and all that comes before it is right.
 abbrev pub Shows : Seen → Flaw → Type 0
@@ -32,12 +30,12 @@ Shows s ByteOne = Placed s × (s.one ≡ false)
 Shows s Number = Placed s × (s.one ≡ true) × (s.number ≡ false)
 Shows s Used = Numbered s × (s.used ≡ false)
 Shows s Source = Counted s × (s.source ≡ false)
-Shows s (Fill i) = Counted s × (s.source ≡ true) × (s.fill ≡ Stray i)
+Shows s (Fill i) = Counted s × (s.source ≡ true) × (s.fill ≡ Some i)
 
 -- A flaw is told exactly when it is there and all that comes before it is right.
 abbrev pub FirstFlaw : Type 0
-FirstFlaw = (s : Seen) (f : Flaw) → first_flaw s ≡ Failed f ↔ Shows s f
+FirstFlaw = (s : Seen) (f : Flaw) → first_flaw s ≡ Err f ↔ Shows s f
 
 -- A block passes exactly when every part of it is right.
 abbrev pub NoFlaw : Type 0
-NoFlaw = (s : Seen) → first_flaw s ≡ Passed ↔ Filled s
+NoFlaw = (s : Seen) → first_flaw s ≡ Ok tt ↔ Filled s

@@ -3,12 +3,12 @@
 #![tactic(auto)]
 
 ghost use Rattle.std.specs.Prelude.{◌≡◌};
-ghost use Rattle.flaw.specs.Flaws.{must, of_fill, then, first_flaw, number_of, offset_of, told};
+ghost use Rattle.flaw.specs.Flaws.{must, first_flaw, number_of, offset_of, told};
 
 use table::Told;
 
 // What is wrong with a block, in the order in which it is told. Over the variants stands the number of theirs, and the offset told.
-#[derive(Clone, Copy)]
+#[derive(Clone, Copy, PartialEq, Eq)]
 pub enum Flaw {
     // 12 | block check wrong | no offset
     Check,
@@ -27,20 +27,6 @@ pub enum Flaw {
     Fill(usize),
 }
 
-// How the tests of a block end.
-#[derive(Clone, Copy)]
-pub enum Test {
-    Passed,
-    Failed(Flaw),
-}
-
-// What follows a block's used count: zeros only, or a first byte that is none, at this offset.
-#[derive(Clone, Copy)]
-pub enum Fill {
-    Zero,
-    Stray(usize),
-}
-
 // What was seen of a block: of each part, whether it is as it must be; `one` is byte 1.
 #[derive(Clone, Copy)]
 pub struct Seen {
@@ -51,53 +37,33 @@ pub struct Seen {
     pub number: bool,
     pub used: bool,
     pub source: bool,
-    pub fill: Fill,
+    // The offset of the first byte after the used count that is not zero, if there is one.
+    pub fill: Option<usize>,
 }
 
-// A test that tells what is wrong where it fails.
-fn must(ok: bool, flaw: Flaw) -> Test
+// Refuses where a test fails.
+fn must(ok: bool, flaw: Flaw) -> Result<(), Flaw>
     ensures { result ≡ must ok flaw }
 {
-    if ok { Test::Passed } else { Test::Failed(flaw) }
-}
-
-// The same of the zero fill.
-fn of_fill(fill: Fill) -> Test
-    ensures { result ≡ of_fill fill }
-{
-    match fill {
-        Fill::Zero => Test::Passed,
-        Fill::Stray(i) => Test::Failed(Flaw::Fill(i)),
-    }
-}
-
-// One test, and the rest after it.
-fn then(first: Test, rest: Test) -> Test
-    ensures { result ≡ then first rest }
-{
-    match first {
-        Test::Passed => rest,
-        Test::Failed(flaw) => Test::Failed(flaw),
-    }
+    if ok { Ok(()) } else { Err(flaw) }
 }
 
 // The first flaw: 12, then 20, 21, 22, 23.
-pub fn first(seen: Seen) -> Test
+#[tactic(auto, unfolding(crate::specs::Flaws::first_flaw))]
+pub fn first(seen: Seen) -> Result<(), Flaw>
     ensures { result ≡ first_flaw seen }
 {
-    let rest = seen.fill;
-    let check = must(seen.check, Flaw::Check);
-    let kind = must(seen.kind, Flaw::Kind);
-    let order = must(seen.order, Flaw::Order);
-    let one = must(seen.one, Flaw::ByteOne);
-    let number = must(seen.number, Flaw::Number);
-    let used = must(seen.used, Flaw::Used);
-    let source = must(seen.source, Flaw::Source);
-    let fill = of_fill(rest);
-    let placed = then(kind, order);
-    let numbered = then(one, number);
-    let filled = then(source, fill);
-    then(check, then(placed, then(numbered, then(used, filled))))
+    must(seen.check, Flaw::Check)?;
+    must(seen.kind, Flaw::Kind)?;
+    must(seen.order, Flaw::Order)?;
+    must(seen.one, Flaw::ByteOne)?;
+    must(seen.number, Flaw::Number)?;
+    must(seen.used, Flaw::Used)?;
+    must(seen.source, Flaw::Source)?;
+    match seen.fill {
+        Some(offset) => Err(Flaw::Fill(offset)),
+        None => Ok(()),
+    }
 }
 
 fn number(flaw: Flaw) -> u8
@@ -105,13 +71,10 @@ fn number(flaw: Flaw) -> u8
 {
     match flaw {
         Flaw::Check => 12,
-        Flaw::Kind => 20,
-        Flaw::Order => 20,
-        Flaw::ByteOne => 21,
-        Flaw::Number => 21,
+        Flaw::Kind | Flaw::Order => 20,
+        Flaw::ByteOne | Flaw::Number => 21,
         Flaw::Used => 22,
-        Flaw::Source => 23,
-        Flaw::Fill(_) => 23,
+        Flaw::Source | Flaw::Fill(_) => 23,
     }
 }
 
@@ -120,9 +83,7 @@ fn offset(flaw: Flaw) -> usize
     ensures { result ≡ offset_of flaw }
 {
     match flaw {
-        Flaw::Check => 0,
-        Flaw::Kind => 0,
-        Flaw::Order => 0,
+        Flaw::Check | Flaw::Kind | Flaw::Order => 0,
         Flaw::ByteOne => 1,
         Flaw::Number => 2,
         Flaw::Used => 4,
@@ -132,6 +93,7 @@ fn offset(flaw: Flaw) -> usize
 }
 
 // The number, the block and the offset of a flaw.
+#[tactic(auto, unfolding(crate::specs::Flaws::told))]
 pub fn tell(flaw: Flaw, block: usize) -> Told
     ensures { result ≡ told flaw block }
 {

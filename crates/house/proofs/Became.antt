@@ -1,9 +1,9 @@
 -- What became of number 13: old and new definition refuse the same files, and all else is told as it was. Assumes nothing.
+use Rattle.std.specs.Prelude.{Option, Some, None, Ok, Err}
 use mathlib.Core.Path.{◌≡◌, refl, sym, ap, ◌∙◌}
 use mathlib.Core.Bool.{Bool, true, false}
 use mathlib.Core.List.{List, [], ◌∷◌}
 use mathlib.Core.Logic.{inl, inr}
-use mathlib.Core.Option.{Option, some, none}
 use Prim.Native.Nat.{ℕ, zero, suc, ◌<◌}
 use native.Mathlib.Omega.{arith}
 use lib.ListN.{length}
@@ -27,8 +27,7 @@ use Rattle.house.specs.Laws.{NoThirteen}
 use Rattle.house.specs.declared.answer.Contents.{Contents}
 use Rattle.house.specs.declared.answer.Refusal.{Refusal}
 use Rattle.house.specs.declared.answer.Refusal.TheVariants.{Length, Block, Standard, Content}
-use Rattle.house.specs.declared.answer.Verdict.{Verdict}
-use Rattle.house.specs.declared.answer.Verdict.TheVariants.{Passed, Refused}
+use Rattle.house.specs.Verdict.{Verdict}
 use Rattle.house.specs.Before as before
 use Rattle.house.specs.Before.{unless_stray, Became, split, same, SameFiles}
 use Rattle.house.proofs.Faults.{block_told}
@@ -54,8 +53,8 @@ joined true true true false n u s f = refl
 joined true true true true false u s f = refl
 joined true true true true true false s f = refl
 joined true true true true true true false f = refl
-joined true true true true true true true none = refl
-joined true true true true true true true (some i) = refl
+joined true true true true true true true None = refl
+joined true true true true true true true (Some i) = refl
 
 same_block : (b : List ℕ) (k : ℕ) (a : List ℕ) → before.block_test b k a ≡ block.block_test b k a
 unfolding before.block_test before.place_test before.number_test before.payload_test before.fill_test block.block_test block.seen block.fill_of
@@ -89,10 +88,10 @@ below (Buffer n) = omega arith
 abbrev Within : Refusal → Type 0
 Within r = (i k : ℕ) → r ≡ Block (Fill i) k → i < check_at
 
-within : (s : List ℕ) (a b : ℕ) (r : Refusal) → now.verdict s a b ≡ Refused r → Within r
+within : (s : List ℕ) (a b : ℕ) (r : Refusal) → now.verdict s a b ≡ Err r → Within r
 unfolding block.seen
 within s a b r e i k f =
-    let x = (block_told s a b (Fill i) k).0 (e ∙ ap Refused f) in
+    let x = (block_told s a b (Fill i) k).0 (e ∙ ap Err f) in
     let (p, q, w) = (flaw_told (block_at s k) k (block_before s k) (Fill i)).0 x.flawed in
     ((first_stray (block_at s k) i).0 w).0
 
@@ -110,10 +109,10 @@ became (Block (Fill i) k) w = split 23 k i (omega arith) (omega arith) (w i k re
 became Standard w = same (table.told_at 14 0) (inr refl)
 became (Content r) w = same (table.told r) (inl (below r))
 
-tells : (v : Verdict) (c : Contents) → ((r : Refusal) → v ≡ Refused r → Within r)
+tells : (v : Verdict) (c : Contents) → ((r : Refusal) → v ≡ Err r → Within r)
     → Became (before.told_of (answer v c)) (now_told.told_of (answer v c))
-tells Passed c h = same (table.told_at 0 0) (inl (omega arith))
-tells (Refused r) c h = became r (h r refl)
+tells (Ok _) c h = same (table.told_at 0 0) (inl (omega arith))
+tells (Err r) c h = became r (h r refl)
 
 pub no_thirteen : NoThirteen
 unfolding now_told.told flaw.told

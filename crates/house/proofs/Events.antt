@@ -1,8 +1,8 @@
 -- Laws of the events: which is the first that is not valid. Assumes nothing.
+use Rattle.std.specs.Prelude.{Option, Some, None}
 use mathlib.Core.Path.{◌≡◌, refl, ap, ◌∙◌}
 use mathlib.Core.Bool.{true, false}
 use mathlib.Core.List.{List}
-use mathlib.Core.Option.{Option, some, none}
 use Prim.Native.Nat.{ℕ, ◌+◌, ◌-◌, ◌≤◌, ◌<◌}
 use native.Mathlib.Decide.{dec_lt}
 use native.Mathlib.Omega.{arith}
@@ -25,8 +25,8 @@ module _ (i o : ℕ) where
   valid_told es = go (first (invalid_at es i o) (length es)) refl
     where
       go : (f : Option ℕ) → first (invalid_at es i o) (length es) ≡ f → place_or (events_test es i o) (length es) ≡ or_else f (length es)
-      go none e = rw ((events_pass es i o).1 ((found_none (invalid_at es i o) (length es)).0 e))
-      go (some k) e =
+      go None e = rw ((events_pass es i o).1 ((found_none (invalid_at es i o) (length es)).0 e))
+      go (Some k) e =
           rw ((first_invalid es i o k).1 ((found_first (invalid_at es i o) (length es) k).0 e)) (ap (λ (t : Told). t.place) (event_told k))
 
   -- so far, all are valid
@@ -52,13 +52,13 @@ module _ (i o : ℕ) where
   valid_known es n e = go (first (invalid_at es i o) (length es)) refl e
     where
       go : (f : Option ℕ) → first (invalid_at es i o) (length es) ≡ f → n ≡ or_else f (length es) → Known es n
-      go none g e =
+      go None g e =
           record {
             within = omega arith;
             before = λ j l. (found_none (invalid_at es i o) (length es)).0 g j (omega arith);
             at = λ l. absurd (omega arith);
           }
-      go (some k) g e =
+      go (Some k) g e =
           let (l, b, h) = (found_first (invalid_at es i o) (length es) k).0 g in
           record { within = omega arith; before = rw e h; at = λ m. rw e b }
 

@@ -1,4 +1,5 @@
 -- Which block is told, and with which flaw. Assumes nothing.
+use Rattle.std.specs.Prelude.{Ok, Err}
 use mathlib.Core.Path.{◌≡◌, refl, sym, ap, ◌∙◌}
 use mathlib.Core.Bool.{Bool, true, false}
 use mathlib.Core.List.{List}
@@ -11,11 +12,9 @@ use Rattle.table.specs.Bytes.{table_of}
 use Rattle.table.specs.Tests.{counts_test, length_test, entries_test, bounds_test}
 use Rattle.table.specs.declared.answer.Refusal as table
 use Rattle.table.specs.declared.answer.Refusal.TheVariants as content
-use Rattle.table.specs.declared.answer.Test as table_answer
-use Rattle.table.specs.declared.answer.Test.TheVariants as table_test
+use Rattle.table.specs.Test.{Test}
 use Rattle.flaw.specs.declared.Flaw.{Flaw}
-use Rattle.flaw.specs.declared.Test.{Test}
-use Rattle.flaw.specs.declared.Test.TheVariants as test
+use Rattle.flaw.specs.Test.{Test as BlockTest}
 use Rattle.block.proofs.Laws.{block_passes}
 use Rattle.house.specs.Limits.{most_events}
 use Rattle.house.specs.File.{block_at, blocks, block_before, rows_of, events_of, contents_of}
@@ -25,30 +24,29 @@ use Rattle.house.specs.Verdicts.{must, of_block, of_table, then}
 use Rattle.house.specs.declared.answer.Contents.{Contents}
 use Rattle.house.specs.declared.answer.Refusal.{Refusal}
 use Rattle.house.specs.declared.answer.Refusal.TheVariants.{Length, Block, Standard, Content}
-use Rattle.house.specs.declared.answer.Verdict.{Verdict}
-use Rattle.house.specs.declared.answer.Verdict.TheVariants.{Passed, Refused}
+use Rattle.house.specs.Verdict.{Verdict}
 use Rattle.house.proofs.Forms.{at_block, each, all}
 use Rattle.house.proofs.Verdicts.{blocks_bad}
 
 -- WHAT A FILE HOLDS IS NEVER TOLD AS A BLOCK
 
 abbrev Elsewhere : Verdict → Type 0
-Elsewhere v = (f : Flaw) (k : ℕ) → v ≡ Refused (Block f k) → ⊥
+Elsewhere v = (f : Flaw) (k : ℕ) → v ≡ Err (Block f k) → ⊥
 
-of_must : (b : Bool) (r : Refusal) → Elsewhere (Refused r) → Elsewhere (must b r)
+of_must : (b : Bool) (r : Refusal) → Elsewhere (Err r) → Elsewhere (must b r)
 of_must true r w = λ f k e. clash (cc)
 of_must false r w = w
 
 of_then : (v w : Verdict) → Elsewhere v → Elsewhere w → Elsewhere (then v w)
-of_then Passed w f g = g
-of_then (Refused r) w f g = f
+of_then (Ok _) w f g = g
+of_then (Err r) w f g = f
 
-is_content : (r : table.Refusal) → Elsewhere (Refused (Content r))
+is_content : (r : table.Refusal) → Elsewhere (Err (Content r))
 is_content r f k e = clash (cc)
 
-of_content : (t : table_answer.Test) → Elsewhere (of_table t)
-of_content table_test.Passed = λ f k e. clash (cc)
-of_content (table_test.Refused r) = is_content r
+of_content : (t : Test) → Elsewhere (of_table t)
+of_content (Ok _) = λ f k e. clash (cc)
+of_content (Err r) = is_content r
 
 module _ (c : Contents) where
   of_shape : Elsewhere (shape_test c)
@@ -92,27 +90,27 @@ module _ (c : Contents) where
 module _ (s : List ℕ) (f : Flaw) (k : ℕ) where
   -- block k is the first of n that is at fault
   abbrev First : ℕ → Type 0
-  First n = (k < n) × ((j : ℕ) → j < k → at_block s j ≡ test.Passed) × (at_block s k ≡ test.Failed f)
+  First n = (k < n) × ((j : ℕ) → j < k → at_block s j ≡ Ok tt) × (at_block s k ≡ Err f)
 
-  here : (n : ℕ) (t : Test) → at_block s n ≡ t → of_block t n ≡ Refused (Block f k) → blocks_test s n ≡ Passed → First (suc n)
-  here n test.Passed g h p = clash (cc)
-  here n (test.Failed x) g h p =
+  here : (n : ℕ) (t : BlockTest) → at_block s n ≡ t → of_block t n ≡ Err (Block f k) → blocks_test s n ≡ Ok tt → First (suc n)
+  here n (Ok _) g h p = clash (cc)
+  here n (Err x) g h p =
       let i : k ≡ n = cc in
       let e : x ≡ f = cc in
-      (omega arith, rw i (each s n p), rw i (g ∙ ap test.Failed e))
+      (omega arith, rw i (each s n p), rw i (g ∙ ap Err e))
 
-  found : (n : ℕ) → blocks_test s n ≡ Refused (Block f k) → First n
+  found : (n : ℕ) → blocks_test s n ≡ Err (Block f k) → First n
   unfolding blocks_test
   found zero e = clash (cc)
   found (suc n) e = go (found n) (blocks_test s n) refl e
     where
-      go : (blocks_test s n ≡ Refused (Block f k) → First n) → (v : Verdict) → blocks_test s n ≡ v
-          → then v (of_block (at_block s n) n) ≡ Refused (Block f k) → First (suc n)
-      go again (Refused r) g h = let (l, b, x) = again (g ∙ h) in (omega arith, b, x)
-      go again Passed g h = here n (at_block s n) refl h g
+      go : (blocks_test s n ≡ Err (Block f k) → First n) → (v : Verdict) → blocks_test s n ≡ v
+          → then v (of_block (at_block s n) n) ≡ Err (Block f k) → First (suc n)
+      go again (Err r) g h = let (l, b, x) = again (g ∙ h) in (omega arith, b, x)
+      go again (Ok _) g h = here n (at_block s n) refl h g
 
-  told : (n : ℕ) → First n → blocks_test s n ≡ Refused (Block f k)
-  told n (l, b, x) = sym (blocks_bad s k n (Refused (Block f k)) l (all s k b) (rw x) refl)
+  told : (n : ℕ) → First n → blocks_test s n ≡ Err (Block f k)
+  told n (l, b, x) = sym (blocks_bad s k n (Err (Block f k)) l (all s k b) (rw x) refl)
 
 module _ (s : List ℕ) (a b : ℕ) (f : Flaw) (k : ℕ) where
   -- the tests after those of the blocks
@@ -120,17 +118,17 @@ module _ (s : List ℕ) (a b : ℕ) (f : Flaw) (k : ℕ) where
   rest = content_test (contents_of s) (rows_of s) (events_of s) a b
 
   to : (w : Bool) → is_whole (length s) ≡ w
-      → then (then (must w (Length (length s))) (blocks_test s (blocks s))) rest ≡ Refused (Block f k) → Faulty s f k
+      → then (then (must w (Length (length s))) (blocks_test s (blocks s))) rest ≡ Err (Block f k) → Faulty s f k
   to false g e = clash (cc)
   to true g e = go (blocks_test s (blocks s)) refl e
     where
-      go : (v : Verdict) → blocks_test s (blocks s) ≡ v → then v rest ≡ Refused (Block f k) → Faulty s f k
-      go Passed h e = absurd (of_contents (contents_of s) (rows_of s) (events_of s) a b f k e)
-      go (Refused r) h e =
+      go : (v : Verdict) → blocks_test s (blocks s) ≡ v → then v rest ≡ Err (Block f k) → Faulty s f k
+      go (Ok _) h e = absurd (of_contents (contents_of s) (rows_of s) (events_of s) a b f k e)
+      go (Err r) h e =
           let (l, x, y) = found s f k (blocks s) (h ∙ e) in
           record { whole = g; counted = l; before = λ j m. (block_passes (block_at s j) j (block_before s j)).0 (x j m); flawed = y }
 
-  from : Faulty s f k → verdict s a b ≡ Refused (Block f k)
+  from : Faulty s f k → verdict s a b ≡ Err (Block f k)
   unfolding verdict form_test
   from x =
       rw (

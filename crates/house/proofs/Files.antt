@@ -6,8 +6,8 @@ use Prim.Native.Nat.{ℕ, zero, suc, ◌+◌, ◌*◌, ◌-◌, ◌≤◌, ◌<�
 use native.Mathlib.Nat.{add-zero, add-suc}
 use native.Mathlib.Numerals.{add-one}
 use native.Mathlib.Omega.{arith}
-use lib.ListN.{length, take, drop, get_or, length-append, length-take, get_or-append}
-use lib.Seq.{get_or-append-add}
+use lib.ListN.{length, take, drop, get_or, length-append, length-drop, length-take, get_or-append}
+use lib.Seq.{get_or-append-add, take-append_seam, drop-append_seam, drop-drop}
 use lib.Dec.{eqb}
 use Rattle.lent.specs.Lent.{front, put, put_at}
 use Rattle.lent.proofs.Laws.{put_fits, front_stands, front_more}
@@ -17,17 +17,47 @@ use Rattle.house.specs.File.{block_at, blocks, block_before, joined}
 
 -- BLOCKS
 
--- the part of a file that is taken for block k
-pub cut : (s : List ℕ) (k : ℕ) → take (block_size * k + block_size - block_size * k) (drop (block_size * k) s) ≡ block_at s k
-cut s k = let e : block_size * k + block_size - block_size * k ≡ block_size = omega arith in rw e
+-- a walk over the blocks of a file that has passed k of them, and has this left to cut into pieces of this size
+pub record Walked (s left : List ℕ) (size k : ℕ) : Type 0 where
+  pub sized : size ≡ block_size
+  pub after : left ≡ drop (block_size * k) s
+  pub within : block_size * k ≤ length s
 
--- the block before block k
-pub before_first : (s : List ℕ) (k : ℕ) → k ≡ 0 → block_before s k ≡ []
-before_first s k e = ap (block_before s) e
+-- block k is the next
+pub record Next (s b after : List ℕ) (size k : ℕ) : Type 0 where
+  pub here : b ≡ block_at s k
+  pub inside : k < blocks s
+  pub on : Walked s after size (k + 1)
 
-pub before_later : (s : List ℕ) (k : ℕ) → (k ≡ 0 → ⊥) → block_at s (k - 1) ≡ block_before s k
-before_later s zero n = absurd (n refl)
-before_later s (suc k) n = let e : suc k - 1 ≡ k = omega arith in ap (block_at s) e
+pub walk_next : {s left b after l l' : List ℕ} {size n k : ℕ} → Walked s left size k
+    → (n ≡ size) × ((left ≡ b ++ after) × (length b ≡ size)) × (l ≡ l') → Next s b after n k
+walk_next {s} {left} {b} {after} {l} {l'} {size} {n} {k} w step =
+    let split : b ++ after ≡ drop (block_size * k) s = sym step.1.0 ∙ w.after in
+    let e : length b ≡ block_size = step.1.1 ∙ w.sized in
+    let long : block_size * (k + 1) ≤ length s = omega (arith, w.within, e, ap length split, length-append b after, length-drop (block_size * k) s) in
+    let more : block_size * (k + 1) ≡ block_size * k + block_size = omega arith in
+    record {
+      here = sym (take-append_seam b after) ∙ ap (λ (i : ℕ). take i (b ++ after)) e ∙ ap (take block_size) split;
+      inside = omega (arith, long);
+      on = record {
+        sized = step.0 ∙ w.sized;
+        after =
+            sym (drop-append_seam b after)
+            ∙ ap (λ (i : ℕ). drop i (b ++ after)) e
+            ∙ ap (drop block_size) split
+            ∙ drop-drop block_size (block_size * k) s
+            ∙ ap (λ (i : ℕ). drop i s) (sym more);
+        within = long;
+      };
+    }
+
+-- then it is the block before the next
+pub before_next : (s b : List ℕ) (k : ℕ) → b ≡ block_at s k → b ≡ block_before s (k + 1)
+before_next s b k e = e ∙ ap (block_before s) (sym (add-one k))
+
+-- after the last, all are passed
+pub walk_ends : {s left : List ℕ} {size k : ℕ} → Walked s left size k → length left < size → k ≡ blocks s
+walk_ends {s} {left} {size} {k} w few = omega (arith, w.sized, w.within, ap length w.after, length-drop (block_size * k) s, few)
 
 -- SHARES
 
@@ -95,9 +125,6 @@ module _ (q : ℕ) (s : List ℕ) where
 module _ (q : ℕ) (s b p : List ℕ) (k : ℕ) (e : b ≡ block_at s k) (f : p ≡ share q b) where
   pub part_share : p ≡ share q (block_at s k)
   part_share = f ∙ ap (share q) e
-
-  pub part_short : length p ≤ room
-  part_short = rw f (share_short b q)
 
   pub part_adds : length (joined q s (k + 1)) ≡ length (joined q s k) + length p
   part_adds = omega (arith, length_more q s k, ap length part_share)

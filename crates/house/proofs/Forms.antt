@@ -1,4 +1,5 @@
 -- A file of blocks passes its tests exactly when it is good. Assumes nothing.
+use Rattle.std.specs.Prelude.{Ok}
 use mathlib.Core.Path.{◌≡◌, refl}
 use mathlib.Core.List.{List}
 use mathlib.Core.Logic.{⊎_elim}
@@ -11,8 +12,7 @@ use borrow.Author.Tests.{eqb-true, eq-eqb, leb-true, le-leb}
 use Rattle.table.proofs.Checks.{both}
 use Rattle.block.specs.Limits.{block_size}
 use Rattle.block.specs.Block.{block_test}
-use Rattle.flaw.specs.declared.Test.{Test}
-use Rattle.flaw.specs.declared.Test.TheVariants as block
+use Rattle.flaw.specs.Test.{Test}
 use Rattle.block.proofs.Laws.{block_passes}
 use Rattle.house.specs.Limits.{most_bytes}
 use Rattle.house.specs.Verdicts.{must}
@@ -20,7 +20,6 @@ use Rattle.house.specs.File.{block_at, blocks, block_before}
 use Rattle.house.specs.Reading.{is_whole, blocks_test, form_test}
 use Rattle.house.specs.Laws.{FormPasses}
 use Rattle.house.specs.declared.answer.Refusal.TheVariants.{Length}
-use Rattle.house.specs.declared.answer.Verdict.TheVariants.{Passed}
 use Rattle.house.proofs.Verdicts.{must_passed, block_passed, then_passed}
 
 -- ALL BLOCKS
@@ -29,7 +28,7 @@ module _ (s : List ℕ) where
   abbrev pub at_block : ℕ → Test
   at_block k = block_test (block_at s k) k (block_before s k)
 
-  pub each : (n : ℕ) → blocks_test s n ≡ Passed → (k : ℕ) → k < n → at_block k ≡ block.Passed
+  pub each : (n : ℕ) → blocks_test s n ≡ Ok tt → (k : ℕ) → k < n → at_block k ≡ Ok tt
   unfolding blocks_test
   each zero e k l = absurd (omega arith)
   each (suc n) e k l =
@@ -37,7 +36,7 @@ module _ (s : List ℕ) where
       let m : k ≤ n = omega arith in
       ⊎_elim (λ z. rw z (block_passed _ n r)) (λ l'. each n p k l') (eq-or-lt_of_le m)
 
-  pub all : (n : ℕ) → ((k : ℕ) → k < n → at_block k ≡ block.Passed) → blocks_test s n ≡ Passed
+  pub all : (n : ℕ) → ((k : ℕ) → k < n → at_block k ≡ Ok tt) → blocks_test s n ≡ Ok tt
   unfolding blocks_test
   all zero h = refl
   all (suc n) h = rw (all n (λ k l. h k (omega arith)), h n (omega arith))

@@ -1,4 +1,5 @@
 -- A file is read exactly when it is good and the buffers have room. Assumes nothing.
+use Rattle.std.specs.Prelude.{Option, Some, None, Ok}
 use mathlib.Core.Path.{◌≡◌, refl, sym, ap, ◌∙◌}
 use mathlib.Core.Bool.{true, false}
 use mathlib.Core.List.{List, [], ◌∷◌}
@@ -16,8 +17,7 @@ use Rattle.table.specs.Bytes.{symbol_of, table_of}
 use Rattle.table.specs.Tests.{counts_test, length_test, entries_test, bounds_test}
 use Rattle.table.specs.declared.answer.Refusal.TheVariants as told
 use Rattle.table.specs.declared.answer.Symbol.{Symbol}
-use Rattle.table.specs.declared.answer.Symbol.TheVariants.{Input, Output, Invalid}
-use Rattle.table.specs.declared.answer.Test.TheVariants as table
+use Rattle.table.specs.declared.answer.Symbol.TheVariants.{Input, Output}
 use Rattle.table.specs.Tests.{is_invalid}
 use Rattle.house.specs.Limits.{most_events, most_rows, standard_states, standard_inputs, standard_outputs}
 use Rattle.house.specs.Verdicts.{of_table}
@@ -28,7 +28,6 @@ use Rattle.house.specs.declared.answer.Contents.{Contents}
 use Rattle.house.specs.declared.answer.Refusal.TheVariants as refusal
 use Rattle.house.specs.declared.answer.Source.{Source}
 use Rattle.house.specs.declared.answer.Source.TheVariants.{Rows, Standard}
-use Rattle.house.specs.declared.answer.Verdict.TheVariants.{Passed}
 use Rattle.house.proofs.Tests.{Passes, shape_passed, held_passed, room_passed, verdict_passed}
 use Rattle.house.proofs.Events.{valid_all, valid_known}
 use Rattle.house.proofs.Forms.{form_passes}
@@ -44,10 +43,10 @@ empty (x ∷ l) e = absurd (omega arith)
 module _ (s i o : ℕ) (rows : List ℕ) where
   abbrev Fits : Source → Type 0
   Fits x =
-      (counts_test s i o ≡ table.Passed)
+      (counts_test s i o ≡ Ok tt)
       × (is_standard x s i o ≡ true)
-      × (length_test (length rows) (states_held x s) i o ≡ table.Passed)
-      × (entries_test (table_of rows (states_held x s) i o) ≡ table.Passed)
+      × (length_test (length rows) (states_held x s) i o ≡ Ok tt)
+      × (entries_test (table_of rows (states_held x s) i o) ≡ Ok tt)
 
   rows_good : (x : Source) → Fits x → GoodRows x s i o rows
   rows_good Rows (p, q, r, t) = (table_passes (table_of rows s i o)).0 (p, r, t)
@@ -71,15 +70,15 @@ module _ (s i o : ℕ) (rows : List ℕ) where
 
 -- EVENTS
 
-not_invalid : (x : Symbol) → is_invalid x ≡ false ↔ (x ≡ Invalid → ⊥)
-not_invalid (Input a) = (λ e z. clash (cc), λ f. refl)
-not_invalid (Output a) = (λ e z. clash (cc), λ f. refl)
-not_invalid Invalid = (λ e. clash (cc), λ f. absurd (f refl))
+not_invalid : (x : Option Symbol) → is_invalid x ≡ false ↔ (x ≡ None → ⊥)
+not_invalid (Some (Input a)) = (λ e z. clash (cc), λ f. refl)
+not_invalid (Some (Output a)) = (λ e z. clash (cc), λ f. refl)
+not_invalid None = (λ e. clash (cc), λ f. absurd (f refl))
 
 -- ALL CONTENTS
 
 module _ (c : Contents) (rows events : List ℕ) (n : c.rows ≡ length rows) (m : c.events ≡ length events) where
-  all_valid : valid_events c.inputs c.outputs events ≡ c.events ↔ ((k : ℕ) → k < length events → symbol_of (get_or events k 0) c.inputs c.outputs ≡ Invalid → ⊥)
+  all_valid : valid_events c.inputs c.outputs events ≡ c.events ↔ ((k : ℕ) → k < length events → symbol_of (get_or events k 0) c.inputs c.outputs ≡ None → ⊥)
   all_valid = (
     λ e k l. (not_invalid (symbol_of (get_or events k 0) c.inputs c.outputs)).0
         ((valid_known c.inputs c.outputs events c.events (sym e)).before k (omega arith)),
@@ -100,7 +99,7 @@ module _ (c : Contents) (rows events : List ℕ) (n : c.rows ≡ length rows) (m
         valid = all_valid.0 (eqb-true _ _ (must_passed _ _ p.trace));
       }
 
-  good_passed : GoodContents c rows events → held_test c rows events ≡ Passed
+  good_passed : GoodContents c rows events → held_test c rows events ≡ Ok tt
   unfolding held_test shape_test rows_test limits_test events_test
   good_passed g =
       let (s, t, l, r) = good_fits c.states c.inputs c.outputs rows c.source g.table in

@@ -1,5 +1,6 @@
 -- Every statement of specs/Laws.antt, proved, under one roof: other crates take the laws from here; and what became of number 13,
 -- whose statement stands in specs/Before.antt with the definitions of that time. Assumes nothing.
+use Rattle.std.specs.Prelude.{Ok}
 use mathlib.Core.Path.{◌≡◌, refl, sym, ap, ◌∙◌}
 use mathlib.Core.List.{List, []}
 use Prim.Native.Nat.{ℕ, ◌≤◌}
@@ -14,10 +15,8 @@ use Rattle.house.specs.Reading.{form_test, verdict, after, handed, Answers}
 use Rattle.house.specs.Laws.{FormPasses, BlockTold, NoThirteen, FirstBad, OneReading, NothingWritten, Starts, WhatIsHeld, GoodRows, ContentsPass, RowsFit, ReadExactly, CountsHeld, WhatIsGood, RowsUntouched}
 use Rattle.house.specs.Laws.{OneUnpacking, NothingUnpacked, RoomEnough, WhatIsUnpacked}
 use Rattle.house.specs.declared.answer.Contents.{Contents}
-use Rattle.house.specs.declared.answer.Reading.TheVariants.{Good}
 use Rattle.house.specs.declared.answer.Source.{Source}
 use Rattle.house.specs.declared.answer.Source.TheVariants.{Rows, Standard}
-use Rattle.house.specs.declared.answer.Verdict.TheVariants.{Passed}
 use Rattle.house.specs.Before.{SameFiles}
 use Rattle.house.proofs.Became
 use Rattle.house.proofs.Faults
@@ -54,10 +53,10 @@ pub nothing_written : NothingWritten
 nothing_written s d e r d' e' x = (x.rows, x.events)
 
 -- a file that was read passed its tests, and its contents were answered
-passed : (s d e : List ℕ) (c : Contents) (d' e' : List ℕ) → Answers s d e (Good c) d' e' → verdict s (length d) (length e) ≡ Passed
-passed s d e c d' e' x = good_passed (verdict s (length d) (length e)) (contents_of s) (Good c) x.reading refl
+passed : (s d e : List ℕ) (c : Contents) (d' e' : List ℕ) → Answers s d e (Ok c) d' e' → verdict s (length d) (length e) ≡ Ok tt
+passed s d e c d' e' x = good_passed (verdict s (length d) (length e)) (contents_of s) (Ok c) x.reading refl
 
-answered : (s d e : List ℕ) (c : Contents) (d' e' : List ℕ) → Answers s d e (Good c) d' e' → c ≡ contents_of s
+answered : (s d e : List ℕ) (c : Contents) (d' e' : List ℕ) → Answers s d e (Ok c) d' e' → c ≡ contents_of s
 answered s d e c d' e' x = good_contents (verdict s (length d) (length e)) (contents_of s) c x.reading
 
 pub contents_pass : ContentsPass
@@ -120,7 +119,7 @@ pub what_is_unpacked : WhatIsUnpacked
 unfolding contents_of
 what_is_unpacked s d e c d' e' l m x =
     let i = good_contents (form_test s) (contents_of s) c x.reading in
-    let g = (form_passes s).0 (good_passed (form_test s) (contents_of s) (Good c) x.reading refl) in
+    let g = (form_passes s).0 (good_passed (form_test s) (contents_of s) (Ok c) x.reading refl) in
     let (a, b) = room_enough s g in
     let few : length (rows_of s) ≤ length d = omega arith in
     let short : length (events_of s) ≤ length e = omega arith in (

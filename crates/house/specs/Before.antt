@@ -1,16 +1,14 @@
 -- The reader's refusals as they were before number 13 was split: the definitions of that time, word for word but for the homes of
 -- names that have moved since. They stand here for the one statement at the end, and for nothing else. What a field must be, and the
 -- tests of what a file holds, are those of today: the statement is about the split alone. Assumes nothing.
-use Rattle.std.specs.Prelude.{◌≡◌, List, [], ◌∷◌, ◌⊎◌, ℕ, zero, suc, ◌≤◌, ◌<◌, eqb, length}
-use Rattle.std.proofs.Math.Option.{Option, some, none}
+use Rattle.std.specs.Prelude.{◌≡◌, List, [], ◌∷◌, ◌⊎◌, ℕ, zero, suc, ◌≤◌, ◌<◌, eqb, length, Option, Some, None, Ok, Err}
 use Rattle.table.specs.First.{first}
 use Rattle.table.specs.Refusals as table
 use Rattle.table.specs.declared.answer.Told.{Told}
 use Rattle.flaw.specs.Flaws as flaw
 use Rattle.flaw.specs.declared.Flaw.{Flaw}
 use Rattle.flaw.specs.declared.Flaw.TheVariants.{Check, Kind, Order, ByteOne, Number, Used, Source, Fill}
-use Rattle.flaw.specs.declared.Test.{Test}
-use Rattle.flaw.specs.declared.Test.TheVariants as test
+use Rattle.flaw.specs.Test.{Test}
 use Rattle.block.specs.Block.{byte_one, kind, number, used, source, stored, check, stray, kind_fits, order_fits, used_fits, source_fits}
 use Rattle.block.specs.Limits.{check_at}
 use Rattle.house.specs.File.{block_at, blocks, block_before, rows_of, events_of, contents_of}
@@ -18,19 +16,17 @@ use Rattle.house.specs.Reading.{is_whole, content_test, answer, after, Answers}
 use Rattle.house.specs.Refusals as now
 use Rattle.house.specs.Refusals.{results}
 use Rattle.house.specs.Verdicts.{must, of_block, is_good, then, first_of}
-use Rattle.house.specs.declared.answer.Reading.{Reading}
-use Rattle.house.specs.declared.answer.Reading.TheVariants as reading
+use Rattle.house.specs.Verdict.{Reading}
 use Rattle.house.specs.declared.answer.Refusal.{Refusal}
 use Rattle.house.specs.declared.answer.Refusal.TheVariants.{Length, Block, Standard, Content}
-use Rattle.house.specs.declared.answer.Verdict.{Verdict}
-use Rattle.house.specs.declared.answer.Verdict.TheVariants.{Passed}
+use Rattle.house.specs.Verdict.{Verdict}
 
 -- ONE BLOCK
 
 -- The first byte that should be zero and is not.
 abbrev pub unless_stray : Option ℕ → Test
-unless_stray none = test.Passed
-unless_stray (some i) = test.Failed (Fill i)
+unless_stray None = Ok tt
+unless_stray (Some i) = Err (Fill i)
 
 unfoldable pub fill_test : List ℕ → Test
 fill_test b = unless_stray (first (stray b) check_at)
@@ -57,7 +53,7 @@ block_test b k a =
 
 -- The first k blocks, block by block 12, 13.
 unfoldable pub blocks_test : List ℕ → ℕ → Verdict
-blocks_test s zero = Passed
+blocks_test s zero = Ok tt
 blocks_test s (suc k) = then (blocks_test s k) (of_block (block_test (block_at s k) k (block_before s k)) k)
 
 -- File: 11; then block by block 12, 13;
@@ -97,8 +93,8 @@ told (Content refusal) = table.told refusal
 
 -- A good file has no number.
 abbrev pub told_of : Reading → Told
-told_of (reading.Good c) = table.told_at 0 0
-told_of (reading.Refused r) = told r
+told_of (Ok c) = table.told_at 0 0
+told_of (Err r) = told r
 
 -- WHAT BECAME OF IT
 

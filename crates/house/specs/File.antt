@@ -42,6 +42,10 @@ events_of s = joined event_kind s (blocks s)
 abbrev pub source_of : ℕ → Source
 source_of x = cond (eqb x 0) Rows Standard
 
+abbrev pub source_byte : Source → ℕ
+source_byte Rows = 0
+source_byte Standard = 1
+
 -- Block 0 starts the file, and its payload is: states, inputs, outputs, B, c, source.
 abbrev pub setup : List ℕ → ℕ → ℕ
 setup s i = byte s (payload_at + i)

@@ -1,3 +1,4 @@
+pub mod Verdict
 pub mod Limits
 pub mod Verdicts
 pub mod Refusals

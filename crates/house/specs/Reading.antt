@@ -1,27 +1,23 @@
 -- Document 01: what reading a file answers, and what it leaves in the buffers. Assumes nothing.
-use Rattle.std.specs.Prelude.{◌≡◌, Bool, true, ◌&&◌, List, [], ◌∷◌, ℕ, zero, suc, ◌%◌, eqb, leb, length}
-use Rattle.std.proofs.Math.Option.{Option, some, none}
+use Rattle.std.specs.Prelude.{◌≡◌, Bool, true, ◌&&◌, List, [], ◌∷◌, ℕ, zero, suc, ◌%◌, eqb, leb, length, Option, Some, None, Ok, Err}
 use Rattle.lent.specs.Lent.{front, put}
 use Rattle.table.specs.Bytes.{table_of}
 use Rattle.table.specs.First.{first}
 use Rattle.table.specs.Tests.{counts_test, length_test, entries_test, bounds_test, invalid_at}
 use Rattle.table.specs.Refusals.{told}
 use Rattle.table.specs.declared.answer.Refusal.TheVariants as table
-use Rattle.table.specs.declared.answer.Test as table_test
-use Rattle.table.specs.declared.answer.Test.TheVariants as table_variants
+use Rattle.table.specs.Test.{Test}
 use Rattle.block.specs.Limits.{block_size}
 use Rattle.block.specs.Block.{block_test}
 use Rattle.house.specs.Limits.{most_bytes, most_events, standard_states, standard_inputs, standard_outputs}
 use Rattle.house.specs.Verdicts.{must, of_block, of_table, then, first_of}
 use Rattle.house.specs.File.{block_at, blocks, block_before, rows_of, events_of, contents_of}
 use Rattle.house.specs.declared.answer.Refusal.TheVariants as refusal
-use Rattle.house.specs.declared.answer.Verdict.{Verdict}
-use Rattle.house.specs.declared.answer.Verdict.TheVariants.{Passed, Refused}
+use Rattle.house.specs.Verdict.{Verdict}
 use Rattle.house.specs.declared.answer.Source.{Source}
 use Rattle.house.specs.declared.answer.Source.TheVariants as source
 use Rattle.house.specs.declared.answer.Contents.{Contents}
-use Rattle.house.specs.declared.answer.Reading.{Reading}
-use Rattle.house.specs.declared.answer.Reading.TheVariants as reading
+use Rattle.house.specs.Verdict.{Reading}
 
 -- THE FILE AND ITS BLOCKS
 
@@ -31,7 +27,7 @@ is_whole n = leb 1 n && (leb n most_bytes && eqb (n % block_size) 0)
 
 -- The first k blocks, block by block 12, 20, 21, 22, 23.
 unfoldable pub blocks_test : List ℕ → ℕ → Verdict
-blocks_test s zero = Passed
+blocks_test s zero = Ok tt
 blocks_test s (suc k) = then (blocks_test s k) (of_block (block_test (block_at s k) k (block_before s k)) k)
 
 -- WHAT IT HOLDS
@@ -47,14 +43,14 @@ states_held source.Rows s = s
 states_held source.Standard s = 0
 
 -- The place that a test tells; n, if it passed.
-abbrev pub place_or : table_test.Test → ℕ → ℕ
-place_or table_variants.Passed n = n
-place_or (table_variants.Refused r) n = (told r).place
+abbrev pub place_or : Test → ℕ → ℕ
+place_or (Ok _) n = n
+place_or (Err r) n = (told r).place
 
 -- How many events come before the first that is not valid; all of them, if there is none.
 abbrev pub or_else : Option ℕ → ℕ → ℕ
-or_else none n = n
-or_else (some k) n = k
+or_else None n = n
+or_else (Some k) n = k
 
 unfoldable pub valid_events : ℕ → ℕ → List ℕ → ℕ
 valid_events inputs outputs events = or_else (first (invalid_at events inputs outputs) (length events)) (length events)
@@ -129,14 +125,14 @@ verdict s row_room event_room =
 
 -- Counts, bounds and source are in the result.
 abbrev pub answer : Verdict → Contents → Reading
-answer Passed c = reading.Good c
-answer (Refused r) c = reading.Refused r
+answer (Ok _) c = Ok c
+answer (Err r) c = Err r
 
 -- The reader copies rows into one buffer of the caller's and events into another, from their starts; later bytes keep their values.
 -- A refused read writes nothing.
 abbrev pub after : Reading → List ℕ → List ℕ → List ℕ
-after (reading.Good c) buffer held = front buffer held
-after (reading.Refused r) buffer held = buffer
+after (Ok c) buffer held = front buffer held
+after (Err r) buffer held = buffer
 
 -- The reading of the file s into the buffers d and e: the answer, and the buffers afterwards.
 pub record Answers (s d e : List ℕ) (r : Reading) (d' e' : List ℕ) : Type 0 where
@@ -148,8 +144,8 @@ pub record Answers (s d e : List ℕ) (r : Reading) (d' e' : List ℕ) : Type 0 
 
 -- What blocks hold goes to the start of a buffer, if it has room there.
 abbrev pub handed : Reading → List ℕ → List ℕ → List ℕ
-handed (reading.Good c) buffer held = put buffer held
-handed (reading.Refused r) buffer held = buffer
+handed (Ok c) buffer held = put buffer held
+handed (Err r) buffer held = buffer
 
 -- The file s unpacked into the buffers d and e: 11; then block by block 12, 20 to 23; what the blocks hold is not tested.
 pub record Unpacks (s d e : List ℕ) (r : Reading) (d' e' : List ℕ) : Type 0 where

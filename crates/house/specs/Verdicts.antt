@@ -1,46 +1,26 @@
--- Tests in their order: the first that fails gives the answer. Assumes nothing.
-use Rattle.std.specs.Prelude.{Bool, true, false, List, [], ◌∷◌, ℕ}
-use Rattle.table.specs.declared.answer.Test as table_test
-use Rattle.table.specs.declared.answer.Test.TheVariants as table
-use Rattle.flaw.specs.declared.Test as block_test
-use Rattle.flaw.specs.declared.Test.TheVariants as block
-use Rattle.house.specs.declared.answer.Refusal.{Refusal}
+-- Tests in their order, of a block and of a table, as those of a file: the first that fails gives the answer, as in the crate `flaw`.
+-- Assumes nothing.
+use Rattle.std.specs.Prelude.{Bool, true, false, ℕ, Ok, Err}
+use Rattle.table.specs.Test.{Test}
+pub use Rattle.flaw.specs.Flaws.{must, then, first_of}
+use Rattle.flaw.specs.Test.{Test as BlockTest}
 use Rattle.house.specs.declared.answer.Refusal.TheVariants.{Block, Content}
-use Rattle.house.specs.declared.answer.Reading.{Reading}
-use Rattle.house.specs.declared.answer.Reading.TheVariants as reading
-use Rattle.house.specs.declared.answer.Verdict.{Verdict}
-use Rattle.house.specs.declared.answer.Verdict.TheVariants.{Passed, Refused}
-
--- A test that refuses where it fails.
-abbrev pub must : Bool → Refusal → Verdict
-must true r = Passed
-must false r = Refused r
+use Rattle.house.specs.Verdict.{Reading, Verdict}
 
 -- A test of block k.
-abbrev pub of_block : block_test.Test → ℕ → Verdict
-of_block block.Passed k = Passed
-of_block (block.Failed flaw) k = Refused (Block flaw k)
+abbrev pub of_block : BlockTest → ℕ → Verdict
+of_block (Ok _) k = Ok tt
+of_block (Err flaw) k = Err (Block flaw k)
 
 -- A test of the crate `table`.
-abbrev pub of_table : table_test.Test → Verdict
-of_table table.Passed = Passed
-of_table (table.Refused r) = Refused (Content r)
+abbrev pub of_table : Test → Verdict
+of_table (Ok _) = Ok tt
+of_table (Err r) = Err (Content r)
 
 abbrev pub is_passed : Verdict → Bool
-is_passed Passed = true
-is_passed (Refused r) = false
+is_passed (Ok _) = true
+is_passed (Err r) = false
 
 abbrev pub is_good : Reading → Bool
-is_good (reading.Good c) = true
-is_good (reading.Refused r) = false
-
--- One test, and the rest after it.
-abbrev pub then : Verdict → Verdict → Verdict
-then Passed rest = rest
-then (Refused r) rest = Refused r
-
--- Tests one after another.
-abbrev pub first_of : List Verdict → Verdict
-first_of [] = Passed
-first_of (v ∷ []) = v
-first_of (v ∷ w ∷ vs) = then v (first_of (w ∷ vs))
+is_good (Ok c) = true
+is_good (Err r) = false

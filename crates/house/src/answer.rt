@@ -1,13 +1,14 @@
 // The answers of this crate, and the number and places of document 01 for each refusal.
 ghost use Rattle.std.specs.Prelude.{◌≡◌};
+ghost use Rattle.house.specs.File.{source_of, source_byte};
 ghost use Rattle.house.specs.Refusals.{told};
-ghost use Rattle.house.specs.Verdicts.{must, then, is_passed, is_good, of_block, of_table};
+ghost use Rattle.house.specs.declared.answer.Refusal.TheVariants.{Content};
 
 use flaw::Flaw;
-use table::Told;
+use table::{Tell, Told};
 
 // Why a file is turned away. Over each variant stands its row of document 01's table; what the variant holds is the place told.
-#[derive(Clone, Copy)]
+#[derive(Clone, Copy, PartialEq, Eq)]
 pub enum Refusal {
     // 11 | file empty, not whole blocks, or over 7,680 bytes | length
     Length(usize),
@@ -20,22 +21,15 @@ pub enum Refusal {
     Content(table::Refusal),
 }
 
-// How a test of a file ends.
-#[derive(Clone, Copy)]
-pub enum Verdict {
-    Passed,
-    Refused(Refusal),
-}
-
 // Where the table comes from: rows in the file, or the standard box.
-#[derive(Clone, Copy)]
+#[derive(Clone, Copy, PartialEq, Eq)]
 pub enum Source {
     Rows,
     Standard,
 }
 
 // What a file holds: the table's counts, the bounds B and c, the source, and how many bytes of rows and events there are.
-#[derive(Clone, Copy)]
+#[derive(Clone, Copy, PartialEq, Eq)]
 pub struct Contents {
     pub states: u8,
     pub inputs: u8,
@@ -47,88 +41,55 @@ pub struct Contents {
     pub events: usize,
 }
 
-// What reading a file answers.
-#[derive(Clone, Copy)]
-pub enum Reading {
-    Good(Contents),
-    Refused(Refusal),
-}
+// The number of a source, in a file and elsewhere: 0 means that rows follow. Any other number is taken for 1, the standard box.
+impl From<usize> for Source {
+    ghost from_gives = { λ number source. source ≡ source_of number };
 
-// A test that refuses where it fails.
-pub(crate) fn must(ok: bool, refusal: Refusal) -> Verdict
-    ensures { result ≡ must ok refusal }
-{
-    if ok {
-        Verdict::Passed
-    } else {
-        Verdict::Refused(refusal)
+    fn from(number: usize) -> Source {
+        match number {
+            0 => Source::Rows,
+            _ => Source::Standard,
+        }
     }
 }
 
-// One test, and the rest after it.
-pub(crate) fn then(first: Verdict, rest: Verdict) -> Verdict
-    ensures { result ≡ then first rest }
-{
-    match first {
-        Verdict::Passed => rest,
-        Verdict::Refused(r) => Verdict::Refused(r),
+impl From<Source> for u8 {
+    ghost from_gives = { λ source byte. byte ≡ source_byte source };
+
+    fn from(source: Source) -> u8 {
+        match source {
+            Source::Rows => 0,
+            Source::Standard => 1,
+        }
     }
 }
 
-pub(crate) fn passed(v: Verdict) -> bool
-    ensures { result ≡ is_passed v }
-{
-    match v {
-        Verdict::Passed => true,
-        Verdict::Refused(_) => false,
+impl From<table::Refusal> for Refusal {
+    ghost from_gives = { λ content refusal. refusal ≡ Content content };
+
+    fn from(content: table::Refusal) -> Refusal {
+        Refusal::Content(content)
     }
 }
 
-pub(crate) fn is_good(r: Reading) -> bool
-    ensures { result ≡ is_good r }
-{
-    match r {
-        Reading::Good(_) => true,
-        Reading::Refused(_) => false,
-    }
-}
+impl Tell for Refusal {
+    ghost tells = { told };
 
-// A test of block k.
-pub(crate) fn of_block(test: flaw::Test, k: usize) -> Verdict
-    ensures { result ≡ of_block test k }
-{
-    match test {
-        flaw::Test::Passed => Verdict::Passed,
-        flaw::Test::Failed(flaw) => Verdict::Refused(Refusal::Block(flaw, k)),
-    }
-}
-
-// A test of the crate `table`.
-pub(crate) fn of_table(test: table::Test) -> Verdict
-    ensures { result ≡ of_table test }
-{
-    match test {
-        table::Test::Passed => Verdict::Passed,
-        table::Test::Refused(r) => Verdict::Refused(Refusal::Content(r)),
-    }
-}
-
-// The number and the places of a refusal.
-pub fn tell(r: Refusal) -> Told
-    ensures { result ≡ told r }
-{
-    match r {
-        Refusal::Length(length) => Told {
-            number: 11,
-            place: length,
-            second: 0,
-        },
-        Refusal::Block(flaw, block) => flaw::tell(flaw, block),
-        Refusal::Standard => Told {
-            number: 14,
-            place: 0,
-            second: 0,
-        },
-        Refusal::Content(refusal) => table::tell(refusal),
+    #[tactic(auto, unfolding(crate::specs::Refusals::told))]
+    fn tell(self) -> Told {
+        match self {
+            Refusal::Length(length) => Told {
+                number: 11,
+                place: length,
+                second: 0,
+            },
+            Refusal::Block(flaw, block) => flaw::tell(flaw, block),
+            Refusal::Standard => Told {
+                number: 14,
+                place: 0,
+                second: 0,
+            },
+            Refusal::Content(refusal) => refusal.tell(),
+        }
     }
 }

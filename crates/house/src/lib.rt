@@ -11,26 +11,26 @@ pub mod answer;
 mod content;
 mod file;
 
-use answer::is_good;
-pub use answer::{Contents, Reading, Refusal, Source, tell};
-pub use content::{judge, test};
+pub use answer::{Contents, Refusal, Source};
+use block::Kind;
+pub use content::{MOST_EVENTS, MOST_ROWS, judge, test};
 pub use file::{MOST_BYTES, whole};
 pub use flaw::Flaw;
 
 // Hands out what the blocks hold, unless the file was refused. What has no room in its buffer is not put there.
-pub fn hand(reading: Reading, file: &[u8], rows: &mut [u8], events: &mut [u8])
+pub fn hand(reading: Result<Contents, Refusal>, file: &[u8], rows: &mut [u8], events: &mut [u8])
     ensures rows_after { rows.new ≡ handed reading rows.old (rows_of file.now) }
     ensures events_after { events.new ≡ handed reading events.old (events_of file.now) }
 {
-    if !is_good(reading) {
-        return;
+    if reading.is_ok() {
+        file::gather(file, Kind::Rows, rows);
+        file::gather(file, Kind::Events, events);
     }
-    file::gather(file, block::ROWS, rows);
-    file::gather(file, block::EVENTS, events);
 }
 
 // Reads a file: its rows to the start of one buffer, its events to the start of another. With source 1 there are no rows to copy.
-pub fn read(file: &[u8], rows: &mut [u8], events: &mut [u8]) -> Reading
+#[tactic(auto, using(crate::proofs::Tests::roomy, crate::proofs::Tests::good_passed, crate::proofs::Tests::handed_after))]
+pub fn read(file: &[u8], rows: &mut [u8], events: &mut [u8]) -> Result<Contents, Refusal>
     ensures { Answers file.now rows.old events.old result rows.new events.new }
 {
     let reading = content::judge(file, rows.len(), events.len());
@@ -40,7 +40,7 @@ pub fn read(file: &[u8], rows: &mut [u8], events: &mut [u8]) -> Reading
 
 // Tests a file's form, and no more: numbers 11, 12 and 20 to 23. What its blocks hold goes to the starts of the buffers, whatever it is; what
 // has no room in its buffer is not put there.
-pub fn unpack(file: &[u8], rows: &mut [u8], events: &mut [u8]) -> Reading
+pub fn unpack(file: &[u8], rows: &mut [u8], events: &mut [u8]) -> Result<Contents, Refusal>
     ensures { Unpacks file.now rows.old events.old result rows.new events.new }
 {
     let reading = content::held_by(file);

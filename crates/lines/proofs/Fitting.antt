@@ -1,17 +1,17 @@
 -- Lines are short: no text leaves anything out. Assumes nothing.
+use Rattle.std.specs.Prelude.{Some, None}
 use mathlib.Core.Path.{◌≡◌, refl}
 use mathlib.Core.Bool.{Bool, true, false, cond}
 use mathlib.Core.List.{List, [], ◌∷◌, ◌++◌}
-use Prim.Native.Nat.{ℕ, zero, suc, ◌-◌, ◌/◌, ◌%◌, ◌^◌, ◌≤◌, ◌<◌, min}
+use Prim.Native.Nat.{ℕ, zero, suc, ◌-◌, ◌/◌, ◌%◌, ◌^◌, ◌≤◌, ◌<◌}
 use native.Mathlib.Nat.{pow-suc}
 use native.Mathlib.Omega.{arith}
 use lib.Dec.{ltb, eqb}
-use lib.ListN.{length, get_or, drop, length-append}
-use lib.Seq.{take_all, take_at}
+use lib.ListN.{length, get_or, length-append}
+use lib.Seq.{take_all}
 use borrow.Author.Tests.{lt-ltb}
 use Rattle.io.specs.Digits.{hex_digit_ascii, last_digits}
-use Rattle.session.specs.declared.Flag.TheVariants as flag
-use Rattle.lines.specs.Texts.{most_text, blank, text_of, spelt, decimal, hexadecimal}
+use Rattle.lines.specs.Texts.{most_text, text_of, spelt, decimal, hexadecimal}
 use Rattle.lines.specs.Lines.{space, dash, symbol, states_in, pair, has_second, second_place, event_line, last_line, refused_line}
 use Rattle.lines.specs.Laws.{TextHolds, EventFits, LastFits, RefusedFits}
 
@@ -91,8 +91,8 @@ event_fits k b twelve h g =
 
 pub last_fits : LastFits
 unfolding last_line
-last_fits flag.None = omega arith
-last_fits (flag.At place) = simp length-append (omega (arith, decimal_most place))
+last_fits None = omega arith
+last_fits (Some place) = simp length-append (omega (arith, decimal_most place))
 
 pub refused_fits : RefusedFits
 unfolding refused_line
@@ -100,6 +100,4 @@ refused_fits t = simp length-append (omega (arith, decimal_most t.number, decima
 
 pub text_holds : TextHolds
 unfolding text_of
-text_holds l h =
-    let n : min (length l) most_text ≡ length l = omega arith in
-    rw (n, take_all most_text l h) (take_at l (drop (length l) blank) (length l) refl)
+text_holds l h = take_all most_text l h

@@ -1,28 +1,26 @@
 -- What is shown of the lines, each under one sentence. proofs/Laws.antt proves them all. Assumes nothing.
-use Rattle.std.specs.Prelude.{◌≡◌, List, [], ◌∷◌, ◌++◌, ◌↔◌, ℕ, suc, ◌+◌, ◌*◌, ◌^◌, ◌≤◌, ◌<◌, length, get_or, take}
+use Rattle.std.specs.Prelude.{◌≡◌, List, [], ◌∷◌, ◌++◌, ◌↔◌, ℕ, suc, ◌+◌, ◌*◌, ◌^◌, ◌≤◌, ◌<◌, length, get_or, take, Option, Some, Ok}
 use Rattle.model.specs.Model.{box, events, Config, Set, Plausible}
 use Rattle.table.specs.Bytes.{table_of, symbol_of}
 use Rattle.table.specs.declared.answer.Symbol.TheVariants.{Input, Output}
-use Rattle.table.specs.declared.answer.Test.TheVariants.{Passed}
 use Rattle.table.specs.declared.answer.Told.{Told}
 use Rattle.states.specs.In.{In}
 use Rattle.session.specs.Open.{opening}
 use Rattle.run.specs.Run.{Lowest, Highest, StateOf, WaitingOf, RunOf, RunTo}
-use Rattle.session.specs.declared.Flag.{Flag}
 use Rattle.lines.specs.Texts.{most_text, text_of, decimal, hexadecimal}
 use Rattle.lines.specs.Lines.{space, line_feed, symbol, pair, event_line, last_line, refused_line}
 
 -- NOTHING IS LEFT OUT
 
--- A text has room for every line, and its used bytes are the line.
+-- A text has room for every line, and its bytes are the line.
 abbrev pub TextHolds : Type 0
-TextHolds = (l : List ℕ) → length l ≤ most_text → take (text_of l).used (text_of l).bytes ≡ l
+TextHolds = (l : List ℕ) → length l ≤ most_text → text_of l ≡ l
 
 abbrev pub EventFits : Type 0
 EventFits = (k b : ℕ) (twelve : List ℕ) → b < 256 → ((i : ℕ) → get_or twelve i 0 < 256) → length (event_line k b twelve) ≤ most_text
 
 abbrev pub LastFits : Type 0
-LastFits = (f : Flag) → length (last_line f) ≤ most_text
+LastFits = (f : Option ℕ) → length (last_line f) ≤ most_text
 
 abbrev pub RefusedFits : Type 0
 RefusedFits = (t : Told) → length (refused_line t) ≤ most_text
@@ -33,7 +31,7 @@ RefusedFits = (t : Told) → length (refused_line t) ≤ most_text
 abbrev pub SymbolShown : Type 0
 SymbolShown =
     (b i o a : ℕ)
-    → (symbol_of b i o ≡ Input a → symbol b ≡ 105 ∷ decimal a) × (symbol_of b i o ≡ Output a → symbol b ≡ 111 ∷ decimal a)
+    → (symbol_of b i o ≡ Some (Input a) → symbol b ≡ 105 ∷ decimal a) × (symbol_of b i o ≡ Some (Output a) → symbol b ≡ 111 ∷ decimal a)
 
 -- The line of event k, of byte b, tells the set S: its states, its least and most waiting, its least and most run, a dash for each pair
 -- when it is empty.
@@ -57,6 +55,6 @@ pub record Tells (S : Set ℕ) (k b : ℕ) (line : List ℕ) : Type 0 where
 -- In a run, the line of event k tells the plausible set after the first k + 1 events.
 abbrev pub LineTells : Type 0
 LineTells =
-    (rows : List ℕ) (s i o B c : ℕ) (trace before after : List ℕ) (f : Flag) (k : ℕ) (twelve : List ℕ) → opening rows s i o B c ≡ Passed
+    (rows : List ℕ) (s i o B c : ℕ) (trace before after : List ℕ) (f : Option ℕ) (k : ℕ) (twelve : List ℕ) → opening rows s i o B c ≡ Ok tt
     → RunTo rows s i o B c trace before after f → k < length trace → ((j : ℕ) → j < 12 → get_or twelve j 0 ≡ get_or after (12 * k + j) 0)
     → Tells (Plausible (box (table_of rows s i o)) B c (events (take (suc k) trace))) k (get_or trace k 0) (event_line k (get_or trace k 0) twelve)

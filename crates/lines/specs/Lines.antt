@@ -1,8 +1,6 @@
 -- Document 01, "Small cases": the lines of a listing, byte by byte. Assumes nothing.
-use Rattle.std.specs.Prelude.{Bool, true, cond, ◌&&◌, List, [], ◌∷◌, ◌++◌, ℕ, ◌-◌, eqb, ltb, leb, get_or}
+use Rattle.std.specs.Prelude.{Bool, true, cond, ◌&&◌, List, [], ◌∷◌, ◌++◌, ℕ, ◌-◌, eqb, ltb, leb, get_or, Option, Some, None}
 use Rattle.table.specs.declared.answer.Told.{Told}
-use Rattle.session.specs.declared.Flag.{Flag}
-use Rattle.session.specs.declared.Flag.TheVariants as flag
 use Rattle.run.specs.Run.{eight}
 pub use Rattle.run.specs.Run.{four}
 use Rattle.lines.specs.Texts.{decimal, hexadecimal}
@@ -56,9 +54,9 @@ abbrev pub refused : List ℕ
 refused = 114 ∷ 101 ∷ 102 ∷ 117 ∷ 115 ∷ 101 ∷ 100 ∷ []
 
 -- The last line: the flag's place, or, with no flag, `consistent`.
-unfoldable pub last_line : Flag → List ℕ
-last_line flag.None = consistent ++ (line_feed ∷ [])
-last_line (flag.At place) = flagged ++ (space ∷ decimal place) ++ (line_feed ∷ [])
+unfoldable pub last_line : Option ℕ → List ℕ
+last_line None = consistent ++ (line_feed ∷ [])
+last_line (Some place) = flagged ++ (space ∷ decimal place) ++ (line_feed ∷ [])
 
 -- The numbers that have a second place: 4, row then column; 20 to 23, block then offset.
 abbrev pub has_second : ℕ → Bool

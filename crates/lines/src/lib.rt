@@ -1,158 +1,135 @@
-// The lines of a listing as bytes. Each function answers every input with the one line that specs/Lines.antt defines.
+// The lines of a listing as bytes. Each function answers every input with the one line that specs/Lines.antt defines, and all of it.
 #![tactic(auto)]
 
-ghost use Rattle.std.specs.Prelude.{◌≡◌, [], ◌∷◌, ◌≤◌, ◌+◌, get_or};
-ghost use Rattle.lines.specs.Texts.{text_of, Adds, decimal, hexadecimal};
-ghost use Rattle.lines.specs.Lines.{space, line_feed, symbol, four, states_in, pair, has_second, second_place};
+ghost use Rattle.std.specs.Prelude.{◌≡◌, ◌∷◌, ◌++◌, get_or};
+ghost use Rattle.lines.specs.Texts.{Adds, decimal, hexadecimal};
+ghost use Rattle.lines.specs.Lines.{space, symbol, states_in, pair, has_second, second_place};
 ghost use Rattle.lines.specs.Lines.{header, event_line, last_line, refused_line};
 
-use session::Flag;
 use table::Told;
 
-pub mod text;
+mod text;
 
 pub use text::Text;
 
 // The listing's first line.
-const HEADER: [u8; 32] = *b"event symbol states waiting run\n";
+const HEADER: &[u8] = b"event symbol states waiting run\n";
 
 // Byte i; past the end, 0.
 pub fn byte(bytes: &[u8], i: usize) -> u8
     ensures { result ≡ get_or bytes.now i 0 }
 {
-    if i < bytes.len() {
-        return bytes[i];
-    }
-    0
-}
-
-fn wide(x: u8) -> u64
-    ensures value { result ≡ x }
-    ensures upper_bound { result ≤ 255 }
-{
-    x as u64
-}
-
-// The number that four bytes are, least byte first.
-fn quarter<'a>(twelve: &'a [u8], at: usize) -> u64
-    requires { at ≤ 8 }
-    ensures value { result ≡ four twelve.now at }
-    ensures upper_bound { result ≤ 4294967295 }
-{
-    let a = wide(byte(twelve, at));
-    let b = wide(byte(twelve, at + 1));
-    let c = wide(byte(twelve, at + 2));
-    let d = wide(byte(twelve, at + 3));
-    a + 256 * (b + 256 * (c + 256 * d))
+    bytes.get(i).copied().unwrap_or(0)
 }
 
 // The plausible states, as a number: the first eight of the twelve bytes.
 fn states(twelve: &[u8]) -> u64
     ensures { result ≡ states_in twelve.now }
 {
-    quarter(twelve, 0) + 4294967296 * quarter(twelve, 4)
+    u64::from_le_bytes(std::array::from_fn(|i| byte(twelve, i)))
 }
 
 // i or o with the symbol.
-fn add_symbol(t: Text, b: u8) -> Text
-    ensures { Adds t (space ∷ symbol b) result }
+fn push_symbol(line: &mut Text, b: u8)
+    ensures { Adds line.old (space ∷ symbol b) line.new }
 {
-    let s = text::add(t, b' ');
+    line.push(b' ');
     if b < 128 {
-        let i = text::add(s, b'i');
-        return text::add_decimal(i, b as u64);
+        line.push(b'i');
+        line.push_decimal(u64::from(b));
+    } else {
+        line.push(b'o');
+        line.push_decimal(u64::from(b - 128));
     }
-    let o = text::add(s, b'o');
-    text::add_decimal(o, (b - 128) as u64)
 }
 
 // Least and most; with no states, a dash.
-fn add_pair(t: Text, states: u64, least: u8, most: u8) -> Text
-    ensures { Adds t (space ∷ pair states least most) result }
+fn push_pair(line: &mut Text, states: u64, least: u8, most: u8)
+    ensures { Adds line.old (space ∷ pair states least most) line.new }
 {
-    let s = text::add(t, b' ');
-    if states == 0 {
-        return text::add(s, b'-');
+    line.push(b' ');
+    match states {
+        0 => line.push(b'-'),
+        _ => {
+            line.push_decimal(u64::from(least));
+            line.push(b'-');
+            line.push_decimal(u64::from(most));
+        }
     }
-    let a = text::add_decimal(s, least as u64);
-    let b = text::add(a, b'-');
-    text::add_decimal(b, most as u64)
 }
 
-fn add_number(t: Text, n: u64) -> Text
-    ensures { Adds t (space ∷ decimal n) result }
+fn push_number(line: &mut Text, n: u64)
+    ensures { Adds line.old (space ∷ decimal n) line.new }
 {
-    let s = text::add(t, b' ');
-    text::add_decimal(s, n)
+    line.push(b' ');
+    line.push_decimal(n);
 }
 
-fn add_states(t: Text, n: u64) -> Text
-    ensures { Adds t (space ∷ hexadecimal n) result }
+fn push_states(line: &mut Text, states: u64)
+    ensures { Adds line.old (space ∷ hexadecimal states) line.new }
 {
-    let s = text::add(t, b' ');
-    text::add_hexadecimal(s, n)
+    line.push(b' ');
+    line.push_hexadecimal(states);
 }
 
 // The first line of a listing.
 pub fn first() -> Text
-    ensures { result ≡ text_of header }
+    ensures { result ≡ header }
 {
-    text::add_all(text::empty(), &HEADER)
+    let mut line = Text::new();
+    line.push_all(HEADER);
+    line
 }
 
 // The line of event k, of this byte and these twelve bytes of a run's results.
 pub fn event(k: usize, b: u8, twelve: &[u8]) -> Text
-    ensures { result ≡ text_of (event_line k b twelve.now) }
+    ensures { result ≡ event_line k b twelve.now }
 {
-    let n = states(twelve);
-    let index = text::add_decimal(text::empty(), k as u64);
-    let symbol = add_symbol(index, b);
-    let seen = add_states(symbol, n);
-    let waiting = add_pair(seen, n, byte(twelve, 8), byte(twelve, 9));
-    let run = add_pair(waiting, n, byte(twelve, 10), byte(twelve, 11));
-    text::add(run, b'\n')
+    let states = states(twelve);
+    let mut line = Text::new();
+    line.push_decimal(k as u64);
+    push_symbol(&mut line, b);
+    push_states(&mut line, states);
+    push_pair(&mut line, states, byte(twelve, 8), byte(twelve, 9));
+    push_pair(&mut line, states, byte(twelve, 10), byte(twelve, 11));
+    line.push(b'\n');
+    line
 }
 
 // The last line of a listing.
-pub fn last(flag: Flag) -> Text
-    ensures { result ≡ text_of (last_line flag) }
+pub fn last(flag: Option<usize>) -> Text
+    ensures { result ≡ last_line flag }
 {
+    let mut line = Text::new();
     match flag {
-        Flag::None => text::add_all(text::empty(), b"consistent\n"),
-        Flag::At(place) => {
-            let word = text::add_all(text::empty(), b"flagged");
-            let told = add_number(word, place as u64);
-            text::add(told, b'\n')
+        None => line.push_all(b"consistent"),
+        Some(place) => {
+            line.push_all(b"flagged");
+            push_number(&mut line, place as u64);
         }
     }
+    line.push(b'\n');
+    line
 }
 
 // Whether a refusal has a second place: the column of number 4, the offset of 20 to 23.
 fn has_second(number: u8) -> bool
     ensures { result ≡ has_second number }
 {
-    if number == 4 {
-        return true;
-    }
-    20 <= number && number <= 23
-}
-
-fn add_second(t: Text, number: u8, second: usize) -> Text
-    ensures { Adds t (second_place number second) result }
-{
-    if has_second(number) {
-        return add_number(t, second as u64);
-    }
-    t
+    matches!(number, 4 | 20..=23)
 }
 
 // The only line of a refused file.
 pub fn refused(told: Told) -> Text
-    ensures { result ≡ text_of (refused_line told) }
+    ensures { result ≡ refused_line told }
 {
-    let word = text::add_all(text::empty(), b"refused");
-    let number = add_number(word, told.number as u64);
-    let place = add_number(number, told.place as u64);
-    let second = add_second(place, told.number, told.second);
-    text::add(second, b'\n')
+    let mut line = Text::new();
+    line.push_all(b"refused");
+    push_number(&mut line, u64::from(told.number));
+    push_number(&mut line, told.place as u64);
+    if has_second(told.number) {
+        push_number(&mut line, told.second as u64);
+    }
+    line.push(b'\n');
+    line
 }

@@ -1,63 +1,69 @@
-// A short text that is built byte by byte. What does not fit is left out: no line of a listing is that long.
-ghost use Rattle.std.specs.Prelude.{◌≡◌, [], ◌∷◌};
-ghost use Rattle.lines.specs.Texts.{text_of, Adds, decimal, hexadecimal};
+// A short text that is built from its parts. What does not fit is left out: no line of a listing is that long.
+ghost use Rattle.std.specs.Prelude.{◌≡◌, [], ◌∷◌, ◌++◌, ◌≤◌, ℕ, List, length, take};
+ghost use Rattle.lines.specs.Texts.{most_text, Adds, decimal, hexadecimal};
 
-// The bytes, and zeros after them.
-#[derive(Clone, Copy)]
+use std::marker::Model;
+
+// The first `used` bytes are the text; the rest is not told.
+#[derive(Drop)]
 pub struct Text {
-    pub bytes: [u8; 96],
-    pub used: usize,
+    bytes: [u8; 96],
+    used: usize,
 }
 
-pub(crate) fn empty() -> Text
-    ensures { result ≡ text_of [] }
-{
-    Text {
-        bytes: [0u8; 96],
-        used: 0,
+impl Model for Text {
+    ghost Value = { List ℕ };
+
+    ghost view = { λ t. take t.used t.bytes };
+
+    ghost invariant = { λ t. t.used ≤ 96 };
+}
+
+impl Text {
+    pub(crate) fn new() -> Text
+        ensures { result ≡ [] }
+    {
+        Text {
+            bytes: [0; 96],
+            used: 0,
+        }
     }
-}
 
-// One byte more.
-pub(crate) fn add(t: Text, b: u8) -> Text
-    ensures { Adds t (b ∷ []) result }
-{
-    let mut bytes = t.bytes;
-    let used = t.used;
-    if used < 96 {
-        bytes[used] = b;
-        return Text {
-            bytes,
-            used: used + 1,
-        };
+    pub fn as_bytes(&self) -> &[u8]
+        ensures value { result.now ≡ self.now }
+        ensures fits { length result.now ≤ most_text }
+    {
+        &self.bytes[..self.used]
     }
-    t
-}
 
-pub(crate) fn add_all(t: Text, more: &[u8]) -> Text
-    ensures { Adds t more.now result }
-{
-    let mut s = t;
-    let mut i: usize = 0;
-    while i < more.len() {
-        s = add(s, more[i]);
-        i += 1;
+    // One byte more.
+    pub(crate) fn push(&mut self, b: u8)
+        ensures { Adds self.old (b ∷ []) self.new }
+    {
+        self.push_all(&[b]);
     }
-    s
-}
 
-pub(crate) fn add_decimal(t: Text, n: u64) -> Text
-    ensures { Adds t (decimal n) result }
-{
-    let mut digits = [0u8; 20];
-    let k = io::decimal(n, &mut digits);
-    add_all(t, &digits[..k])
-}
+    pub(crate) fn push_all(&mut self, more: &[u8])
+        ensures { Adds self.old more.now self.new }
+    {
+        let n = (96 - self.used).min(more.len());
+        self.bytes[self.used..self.used + n].copy_from_slice(&more[..n]);
+        self.used += n;
+    }
 
-pub(crate) fn add_hexadecimal(t: Text, n: u64) -> Text
-    ensures { Adds t (hexadecimal n) result }
-{
-    let mut digits = [0u8; 16];
-    let k = io::hex(n, 16, &mut digits);
-    add_all(t, &digits[..k])
+    pub(crate) fn push_decimal(&mut self, n: u64)
+        ensures { Adds self.old (decimal n) self.new }
+    {
+        let mut digits = [0u8; 20];
+        let k = io::decimal(n, &mut digits);
+        self.push_all(&digits[..k]);
+    }
+
+    pub(crate) fn push_hexadecimal(&mut self, n: u64)
+        ensures { Adds self.old (hexadecimal n) self.new }
+    {
+        let mut digits = [0u8; 16];
+        let k = io::hex(n, 16, &mut digits);
+        self.push_all(&digits[..k]);
+    }
 }

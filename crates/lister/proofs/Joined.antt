@@ -1,4 +1,5 @@
 -- The pieces of a listing: what they are joined, that none is cut short, and what the last one says. Assumes nothing.
+use Rattle.std.specs.Prelude.{Option, Some, None, Ok, Err}
 use mathlib.Core.Path.{◌≡◌, refl, sym, ◌∙◌, ap}
 use mathlib.Core.Bool.{Bool, true, false, cond}
 use mathlib.Core.List.{List, [], ◌∷◌, ◌++◌, append-nil, append_assoc}
@@ -8,18 +9,12 @@ use lib.Dec.{eqb, ltb, leb}
 use lib.ListN.{length, take, drop, get_or}
 use lib.Seq.{get_or-take, get_or-drop}
 use borrow.Author.Tests.{ne_eqb, le-leb, lt-leb}
-use Rattle.session.specs.declared.Flag.{Flag}
-use Rattle.session.specs.declared.Flag.TheVariants as flag
-use Rattle.lines.specs.Texts.{most_text, text_of}
+use Rattle.lines.specs.Texts.{most_text}
 use Rattle.lines.specs.Lines.{header, last_line, refused_line, consistent, flagged, refused}
 use Rattle.lines.proofs.Laws.{text_holds, event_fits, last_fits, refused_fits}
 use Rattle.house.specs.Refusals.{told}
-use Rattle.house.specs.declared.answer.Refusal.{Refusal}
 use Rattle.lister.specs.Listing.{twelve_of, line_at, joined, true_length, refusal_line, run_piece, piece_of, outcome_of}
 use Rattle.lister.specs.Laws.{PiecesJoined, Bytes, PieceFits, PieceHeld, Says, LastSays, OneSaid}
-use Rattle.lines.specs.declared.text.Text.{Text}
-use Rattle.lister.specs.declared.judge.Judged.{Judged}
-use Rattle.lister.specs.declared.judge.Judged.TheVariants.{Refused, Ran as Listed}
 use Rattle.lister.specs.declared.Outcome.TheVariants as outcome
 
 -- JOINED
@@ -39,7 +34,7 @@ joined_same a b (suc n) h =
     joined_more a n ∙ ap (λ (x : List ℕ). x ++ a n) (joined_same a b n (λ k l. h k (omega arith)))
     ∙ ap (λ (x : List ℕ). joined b n ++ x) (h n (omega arith)) ∙ sym (joined_more b n)
 
-module _ (m : ℕ) (f : Flag) (events results : List ℕ) where
+module _ (m : ℕ) (f : Option ℕ) (events results : List ℕ) where
   abbrev piece : ℕ → List ℕ
   piece = run_piece m f events results
 
@@ -70,10 +65,10 @@ module _ (m : ℕ) (f : Flag) (events results : List ℕ) where
       ∙ ap (λ (x : List ℕ). (header ++ joined (line_at events results) m) ++ x) last_piece
 
 pub pieces_joined : PiecesJoined
-pieces_joined (Refused r) n events results =
+pieces_joined (Err r) n events results =
     let one : ℕ → List ℕ = λ k. refusal_line r n in
     joined_more one 0 ∙ ap (λ (x : List ℕ). x ++ refusal_line r n) (joined_none one)
-pieces_joined (Listed m f) n events results = all m f events results
+pieces_joined (Ok (m, f)) n events results = all m f events results
 
 -- NOTHING IS CUT SHORT
 
@@ -95,7 +90,7 @@ twelve_bytes results k h = go (ltb k (length results / 12))
     go true = taken (drop (12 * k) results) 12 (λ i. rw (get_or-drop (12 * k) results i 0) (h (12 * k + i)))
     go false = λ i. omega arith
 
-run_fits : (m : ℕ) (f : Flag) (events results : List ℕ) (k : ℕ) → Bytes events → Bytes results
+run_fits : (m : ℕ) (f : Option ℕ) (events results : List ℕ) (k : ℕ) → Bytes events → Bytes results
     → length (run_piece m f events results k) ≤ most_text
 run_fits m f events results k b h = go (eqb k 0) (leb k m)
   where
@@ -105,42 +100,26 @@ run_fits m f events results k b h = go (eqb k 0) (leb k m)
     go false false = last_fits f
 
 pub piece_fits : PieceFits
-piece_fits (Refused r) n events results k b h = refused_fits (told (true_length r n))
-piece_fits (Listed m f) n events results k b h = run_fits m f events results k b h
+piece_fits (Err r) n events results k b h = refused_fits (told (true_length r n))
+piece_fits (Ok (m, f)) n events results k b h = run_fits m f events results k b h
 
 pub piece_held : PieceHeld
 piece_held j n events results k b h = text_holds (piece_of j n events results k) (piece_fits j n events results k b h)
 
--- a text that is a piece, and holds all of it
-abbrev Holds : Text → List ℕ → Type 0
-Holds t l = (t ≡ text_of l) × (take t.used t.bytes ≡ l)
-
-holds : {t : Text} (j : Judged) (n : ℕ) (events results : List ℕ) (k : ℕ) → Bytes events → Bytes results
-    → t ≡ text_of (piece_of j n events results k) → Holds t (piece_of j n events results k)
-holds j n events results k b h e = (e, rw e (piece_held j n events results k b h))
-
-pub refused_piece : {t : Text} (j : Judged) {r : Refusal} (n : ℕ) (events results : List ℕ) (k : ℕ) → Bytes events → Bytes results
-    → j ≡ Refused r → t ≡ text_of (refusal_line r n) → Holds t (piece_of j n events results k)
-refused_piece j n events results k b h e x = holds j n events results k b h (rw e x)
-
-pub listed_piece : {t : Text} (j : Judged) {m : ℕ} {f : Flag} (n : ℕ) (events results : List ℕ) (k : ℕ) → Bytes events → Bytes results
-    → j ≡ Listed m f → t ≡ text_of (run_piece m f events results k) → Holds t (piece_of j n events results k)
-listed_piece j n events results k b h e x = holds j n events results k b h (rw e x)
-
 -- WHAT THE LAST LINE SAYS
 
-last_says : (f : Flag) → Says (outcome_of (Listed 0 f)) (last_line f)
+last_says : (f : Option ℕ) → Says (outcome_of (Ok (0, f))) (last_line f)
 unfolding last_line
-last_says flag.None = refl
-last_says (flag.At place) = refl
+last_says None = refl
+last_says (Some place) = refl
 
 refused_says : (r : _) → take (length refused) (refused_line r) ≡ refused
 unfolding refused_line
 refused_says r = refl
 
 pub last_piece_says : LastSays
-last_piece_says (Refused r) n events results = refused_says (told (true_length r n))
-last_piece_says (Listed m f) n events results =
+last_piece_says (Err r) n events results = refused_says (told (true_length r n))
+last_piece_says (Ok (m, f)) n events results =
     let e : m + 2 - 1 ≡ suc m = omega arith in
     let p : run_piece m f events results (m + 2 - 1) ≡ last_line f = ap (run_piece m f events results) e ∙ last_piece m f events results in
     rw p (last_says f)

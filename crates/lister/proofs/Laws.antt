@@ -1,15 +1,14 @@
 -- Every statement of specs/Laws.antt, proved. Assumes nothing.
+use Rattle.std.specs.Prelude.{Err}
 use mathlib.Core.Path.{◌≡◌, refl, sym, ◌∙◌, ap}
 use Prim.Native.Nat.{ℕ}
 use native.Mathlib.Omega.{arith}
 use lib.ListN.{length}
 use Rattle.run.specs.Run.{ran}
-use Rattle.run.specs.declared.Ran.{Ran}
-use Rattle.session.specs.declared.Flag.{Flag}
 use Rattle.run.proofs.Laws.{one_run}
 use Rattle.house.specs.File.{events_of, contents_of}
 use Rattle.house.proofs.Laws.{read_exactly}
-use Rattle.lister.specs.Judging.{row_room, refused, cramped, listed}
+use Rattle.lister.specs.Judging.{judged, row_room, refused, cramped, listed}
 use Rattle.lister.specs.Laws.{OneJudging, GoodListed, OnlyBadRefused, PiecesJoined, PieceFits, PieceHeld, LastSays, OneSaid}
 use Rattle.lister.specs.Laws.{WholeInput, GoodText, OtherText, OneListing}
 use Rattle.lister.specs.Laws.{TextShort, TextNone, TextFits, TextPlaced, TextLists, TextGood, GoodTold, OtherTold, OneText}
@@ -19,10 +18,9 @@ use Rattle.lister.proofs.Joined
 use Rattle.lister.proofs.Kept
 use Rattle.lister.proofs.Listed
 use Rattle.lister.proofs.Summaries
-use Rattle.lister.specs.declared.judge.Judged.TheVariants.{Refused, Ran as Listed}
 
 pub one_judging : OneJudging
-one_judging s e o j₁ j₂ e₁ e₂ o₁ o₂ (refused x) (refused y) = (ap Refused (refusals (sym x ∙ y)), refl, refl)
+one_judging s e o j₁ j₂ e₁ e₂ o₁ o₂ (refused x) (refused y) = (ap Err (refusals (sym x ∙ y)), refl, refl)
 one_judging s e o j₁ j₂ e₁ e₂ o₁ o₂ (refused x) (cramped v l) = absurd (clash (sym v ∙ x))
 one_judging s e o j₁ j₂ e₁ e₂ o₁ o₂ (refused x) (listed v l r) = absurd (clash (sym v ∙ x))
 one_judging s e o j₁ j₂ e₁ e₂ o₁ o₂ (cramped v l) (refused x) = absurd (clash (sym v ∙ x))
@@ -34,7 +32,7 @@ one_judging s e o j₁ j₂ e₁ e₂ o₁ o₂ (listed {f} v l r) (listed {f = 
     let good = ((read_exactly s row_room (length e)).0 v).0 in
     let t = run_good s (contents_of s) good (length o) l in
     let (a, b) = one_run _ _ _ _ _ _ (events_of s) o _ _ o₁ o₂ (ran t r) (ran t q) in
-    (ap (λ (x : Flag). Listed (length (events_of s)) x) (ap (λ (x : Ran). x.flag) a), refl, b)
+    (ap (judged (length (events_of s))) a, refl, b)
 
 pub good_listed : GoodListed
 good_listed s e o j e' o' l m g (refused x) = absurd (clash (sym (passes s (length e) l g) ∙ x))
@@ -42,7 +40,7 @@ good_listed s e o j e' o' l m g (cramped v x) = absurd (omega (arith, g.contents
 good_listed s e o j e' o' l m g (listed {f} v r w) = (f, refl, w)
 
 pub only_bad_refused : OnlyBadRefused
-only_bad_refused s e o r e' o' l m h g = let (f, x, w) = good_listed s e o (Refused r) e' o' l m g h in let z : ◌≡◌ {A = ℕ} 0 1 = cc in omega arith
+only_bad_refused s e o r e' o' l m h g = let (f, x, w) = good_listed s e o (Err r) e' o' l m g h in let z : ◌≡◌ {A = ℕ} 0 1 = cc in omega arith
 
 -- Piece by piece.
 pub pieces_joined : PiecesJoined

@@ -1,4 +1,5 @@
 -- 11 tells a file's own length, and a file that is too long is told by nothing else. Assumes nothing.
+use Rattle.std.specs.Prelude.{Ok, Err}
 use mathlib.Core.Path.{◌≡◌, refl, ap}
 use mathlib.Core.Bool.{Bool, true, false}
 use mathlib.Core.List.{List}
@@ -11,10 +12,8 @@ use Rattle.table.specs.Bytes.{table_of}
 use Rattle.table.specs.Tests.{counts_test, length_test, entries_test, bounds_test}
 use Rattle.table.specs.declared.answer.Refusal as content_refusal
 use Rattle.table.specs.declared.answer.Refusal.TheVariants as content
-use Rattle.table.specs.declared.answer.Test as table_answer
-use Rattle.table.specs.declared.answer.Test.TheVariants as table_test
-use Rattle.flaw.specs.declared.Test.{Test}
-use Rattle.flaw.specs.declared.Test.TheVariants as test
+use Rattle.table.specs.Test.{Test}
+use Rattle.flaw.specs.Test.{Test as BlockTest}
 use Rattle.block.specs.Block.{block_test}
 use Rattle.house.specs.Limits.{most_bytes, most_events}
 use Rattle.house.specs.File.{block_at, blocks, block_before, rows_of, events_of, contents_of}
@@ -24,42 +23,41 @@ use Rattle.house.specs.Verdicts.{must, of_block, of_table, then}
 use Rattle.house.specs.declared.answer.Contents.{Contents}
 use Rattle.house.specs.declared.answer.Refusal.{Refusal}
 use Rattle.house.specs.declared.answer.Refusal.TheVariants.{Length, Block, Standard, Content}
-use Rattle.house.specs.declared.answer.Verdict.{Verdict}
-use Rattle.house.specs.declared.answer.Verdict.TheVariants.{Passed, Refused}
+use Rattle.house.specs.Verdict.{Verdict}
 use Rattle.lister.specs.Listing.{true_length}
 
-clash : {r : Refusal} → Passed ≡ Refused r → ⊥
+clash : {r : Refusal} → ◌≡◌ {A = Verdict} (Ok tt) (Err r) → ⊥
 clash e = let z : ◌≡◌ {A = ℕ} 0 1 = cc in omega arith
 
 -- A LENGTH IS TOLD BY THE FIRST TEST ALONE
 
 abbrev Otherwise : Verdict → Type 0
-Otherwise v = (n : ℕ) → v ≡ Refused (Length n) → ⊥
+Otherwise v = (n : ℕ) → v ≡ Err (Length n) → ⊥
 
-passed : Otherwise Passed
+passed : Otherwise (Ok tt)
 passed n e = clash e
 
-of_must : (b : Bool) (r : Refusal) → Otherwise (Refused r) → Otherwise (must b r)
+of_must : (b : Bool) (r : Refusal) → Otherwise (Err r) → Otherwise (must b r)
 of_must true r w = passed
 of_must false r w = w
 
 of_then : (v w : Verdict) → Otherwise v → Otherwise w → Otherwise (then v w)
-of_then Passed w f g = g
-of_then (Refused r) w f g = f
+of_then (Ok _) w f g = g
+of_then (Err r) w f g = f
 
-is_content : (r : content_refusal.Refusal) → Otherwise (Refused (Content r))
+is_content : (r : content_refusal.Refusal) → Otherwise (Err (Content r))
 is_content r n e = let z : ◌≡◌ {A = ℕ} 0 1 = cc in omega arith
 
-is_standard_told : Otherwise (Refused Standard)
+is_standard_told : Otherwise (Err Standard)
 is_standard_told n e = let z : ◌≡◌ {A = ℕ} 0 1 = cc in omega arith
 
-of_content : (t : table_answer.Test) → Otherwise (of_table t)
-of_content table_test.Passed = passed
-of_content (table_test.Refused r) = is_content r
+of_content : (t : Test) → Otherwise (of_table t)
+of_content (Ok _) = passed
+of_content (Err r) = is_content r
 
-of_one_block : (t : Test) (k : ℕ) → Otherwise (of_block t k)
-of_one_block test.Passed k = passed
-of_one_block (test.Failed f) k = λ n e. (let z : ◌≡◌ {A = ℕ} 0 1 = cc in omega arith)
+of_one_block : (t : BlockTest) (k : ℕ) → Otherwise (of_block t k)
+of_one_block (Ok _) k = passed
+of_one_block (Err f) k = λ n e. (let z : ◌≡◌ {A = ℕ} 0 1 = cc in omega arith)
 
 of_blocks : (s : List ℕ) (k : ℕ) → Otherwise (blocks_test s k)
 unfolding blocks_test
@@ -108,22 +106,22 @@ module _ (s : List ℕ) (a b n : ℕ) where
   abbrev after : Bool → Verdict
   after w = then (then (must w (Length (length s))) (blocks_test s (blocks s))) (content_test (contents_of s) (rows_of s) (events_of s) a b)
 
-  first_told : verdict s a b ≡ Refused (Length n) → after (is_whole (length s)) ≡ Refused (Length n)
+  first_told : verdict s a b ≡ Err (Length n) → after (is_whole (length s)) ≡ Err (Length n)
   unfolding verdict form_test
   first_told e = e
 
-  told_length : (w : Bool) → after w ≡ Refused (Length n) → length s ≡ n
+  told_length : (w : Bool) → after w ≡ Err (Length n) → length s ≡ n
   told_length false e = cc
   told_length true e =
       absurd (of_then (blocks_test s (blocks s)) _ (of_blocks s (blocks s)) (of_contents (contents_of s) (rows_of s) (events_of s) a b) n e)
 
-pub own_length : (s : List ℕ) (a b : ℕ) (r : Refusal) → verdict s a b ≡ Refused r → true_length r (length s) ≡ r
+pub own_length : (s : List ℕ) (a b : ℕ) (r : Refusal) → verdict s a b ≡ Err r → true_length r (length s) ≡ r
 own_length s a b (Block f k) e = refl
 own_length s a b Standard e = refl
 own_length s a b (Content x) e = refl
 own_length s a b (Length n) e = ap Length (told_length s a b n (is_whole (length s)) (first_told s a b n e))
 
 -- A file over 7,680 bytes.
-pub too_long : (s : List ℕ) (a b : ℕ) → most_bytes < length s → verdict s a b ≡ Refused (Length (length s))
+pub too_long : (s : List ℕ) (a b : ℕ) → most_bytes < length s → verdict s a b ≡ Err (Length (length s))
 unfolding verdict form_test
 too_long s a b h = rw (le-leb 1 (length s) (omega arith), lt-leb (length s) most_bytes h)

@@ -7,3 +7,4 @@ mod Listed
 mod Putting
 mod Summaries
 mod Built
+mod Writing

@@ -1,4 +1,5 @@
 -- The listing of a whole file, good or not, and that it is the only one. Assumes nothing.
+use Rattle.std.specs.Prelude.{Option, Some, None, Ok, Err}
 use mathlib.Core.Path.{◌≡◌, refl, sym, ◌∙◌, ap}
 use mathlib.Core.List.{List, ◌++◌}
 use Prim.Native.Nat.{ℕ, suc, ◌+◌, ◌*◌, ◌/◌, ◌≤◌, ◌<◌}
@@ -12,8 +13,6 @@ use Rattle.lent.proofs.Laws.{front_stands}
 use Rattle.model.specs.Model.{box, events}
 use Rattle.model.proofs.Demands.{one_flag}
 use Rattle.session.specs.Session.{place_of}
-use Rattle.session.specs.declared.Flag.{Flag}
-use Rattle.session.specs.declared.Flag.TheVariants as flag
 use Rattle.run.proofs.Laws.{one_line}
 use Rattle.lines.specs.Lines.{header, event_line, last_line, refused_line}
 use Rattle.lines.specs.Laws.{Tells}
@@ -25,28 +24,26 @@ use Rattle.house.specs.Reading.{verdict}
 use Rattle.house.specs.Refusals.{told}
 use Rattle.house.specs.declared.answer.Refusal.{Refusal}
 use Rattle.house.specs.declared.answer.Refusal.TheVariants.{Length}
-use Rattle.house.specs.declared.answer.Verdict.{Verdict}
-use Rattle.house.specs.declared.answer.Verdict.TheVariants as verdict
+use Rattle.house.specs.Verdict.{Verdict}
 use Rattle.house.proofs.Laws.{rows_fit, read_exactly}
 use Rattle.lister.specs.Judging.{row_room, RunsFile, Judges, refused, cramped, listed}
 use Rattle.lister.specs.Listing.{event_room, result_room, twelve_of, line_at, refusal_line, joined, listing_of}
 use Rattle.lister.specs.Listing.{outcome_of, Kept, Lists}
 use Rattle.lister.specs.Laws.{table_meant, PlausibleAfter, GoodListing, GoodText, OtherListing, OtherText, OneListing}
 use Rattle.lister.specs.declared.Outcome.{Outcome}
-use Rattle.lister.specs.declared.judge.Judged.{Judged}
-use Rattle.lister.specs.declared.judge.Judged.TheVariants.{Refused, Ran as Listed}
+use Rattle.lister.specs.Judged.{Judged}
 use Rattle.lister.proofs.Judging.{opens}
 use Rattle.lister.proofs.Lengths.{own_length, too_long}
 use Rattle.lister.proofs.Joined.{joined_same}
 
-pub clash : {r : Refusal} → verdict.Passed ≡ verdict.Refused r → ⊥
+pub clash : {r : Refusal} → ◌≡◌ {A = Verdict} (Ok tt) (Err r) → ⊥
 clash e = let z : ◌≡◌ {A = ℕ} 0 1 = cc in omega arith
 
-pub refusals : {a b : Refusal} → verdict.Refused a ≡ verdict.Refused b → a ≡ b
+pub refusals : {a b : Refusal} → ◌≡◌ {A = Verdict} (Err a) (Err b) → a ≡ b
 refusals e = cc
 
 -- the rows of a good file fit, so nothing refuses it
-pub passes : (s : List ℕ) (room : ℕ) → event_room ≤ room → GoodFile s (contents_of s) → verdict s row_room room ≡ verdict.Passed
+pub passes : (s : List ℕ) (room : ℕ) → event_room ≤ room → GoodFile s (contents_of s) → verdict s row_room room ≡ Ok tt
 passes s room l g =
     (read_exactly s row_room room).1
     (g, rows_fit (contents_of s) (rows_of s) (events_of s) g.contents, omega (arith, g.contents.few))
@@ -159,14 +156,14 @@ other_text f text r bad x =
 
 -- ONE LISTING
 
-one_place : (f g : Flag) → place_of f ≡ place_of g → f ≡ g
-one_place flag.None flag.None e = refl
-one_place flag.None (flag.At k) e = absurd (let z : ◌≡◌ {A = ℕ} 0 1 = cc in omega arith)
-one_place (flag.At k) flag.None e = absurd (let z : ◌≡◌ {A = ℕ} 0 1 = cc in omega arith)
-one_place (flag.At k) (flag.At l) e = let d : k ≡ l = cc in ap flag.At d
+one_place : (f g : Option ℕ) → place_of f ≡ place_of g → f ≡ g
+one_place None None e = refl
+one_place None (Some k) e = absurd (let z : ◌≡◌ {A = ℕ} 0 1 = cc in omega arith)
+one_place (Some k) None e = absurd (let z : ◌≡◌ {A = ℕ} 0 1 = cc in omega arith)
+one_place (Some k) (Some l) e = let d : k ≡ l = cc in ap Some d
 
 -- the same twelve bytes in whatever room they stand
-same_twelve : (f : List ℕ) (o₁ o₂ a b : List ℕ) (x y : Flag) → RunsFile f o₁ a x → RunsFile f o₂ b y → (k : ℕ) → k < length (events_of f)
+same_twelve : (f : List ℕ) (o₁ o₂ a b : List ℕ) (x y : Option ℕ) → RunsFile f o₁ a x → RunsFile f o₂ b y → (k : ℕ) → k < length (events_of f)
     → k < length a / 12 → k < length b / 12 → twelve_of a k ≡ twelve_of b k
 same_twelve f o₁ o₂ a b x y v w k l p q =
     let (line, is, at) = v.lines k l in
@@ -177,14 +174,14 @@ same_twelve f o₁ o₂ a b x y v w k l p q =
     let j : i < 12 = omega (arith, twelve_long a k p) in
     twelve_at a k i p j ∙ at i j ∙ ap (λ (z : List ℕ). get_or z i 0) same ∙ sym (at' i j) ∙ sym (twelve_at b k i q j))
 
-same_flag : (f : List ℕ) (o₁ o₂ a b : List ℕ) (x y : Flag) → RunsFile f o₁ a x → RunsFile f o₂ b y → x ≡ y
+same_flag : (f : List ℕ) (o₁ o₂ a b : List ℕ) (x y : Option ℕ) → RunsFile f o₁ a x → RunsFile f o₂ b y → x ≡ y
 same_flag f o₁ o₂ a b x y v w =
     one_place x y
     (one_flag (box (table_meant f)) (contents_of f).waiting (contents_of f).losses (events (events_of f)) (place_of x) (place_of y)
     v.flag w.flag)
 
 -- the results of a file that passed have room
-pub not_cramped : (f e o : List ℕ) → length o ≡ result_room → verdict f row_room (length e) ≡ verdict.Passed
+pub not_cramped : (f e o : List ℕ) → length o ≡ result_room → verdict f row_room (length e) ≡ Ok tt
     → length o < 12 * length (events_of f) → ⊥
 not_cramped f e o m v h = omega (arith, ((read_exactly f row_room (length e)).0 v).0.contents.few)
 
@@ -194,7 +191,7 @@ pub one_judged : (f e₁ o₁ e₂ o₂ : List ℕ) (j₁ j₂ : Judged) (a b c 
     → (j₁ ≡ j₂) × (listing_of j₁ n a b ≡ listing_of j₂ n c d)
 one_judged f e₁ o₁ e₂ o₂ j₁ j₂ a b c d n l₁ l₂ m₁ m₂ (refused {r = p} x) (refused {r = q} y) =
     let same : p ≡ q = refusals (sym (rw l₁ at x) ∙ (rw l₂ at y)) in
-    (ap Refused same, ap (λ (z : Refusal). refusal_line z n) same)
+    (ap Err same, ap (λ (z : Refusal). refusal_line z n) same)
 one_judged f e₁ o₁ e₂ o₂ j₁ j₂ a b c d n l₁ l₂ m₁ m₂ (refused x) (cramped v l) = absurd (not_cramped f e₂ o₂ m₂ v l)
 one_judged f e₁ o₁ e₂ o₂ j₁ j₂ a b c d n l₁ l₂ m₁ m₂ (refused x) (listed v p w) = absurd (clash (sym (rw l₂ at v) ∙ (rw l₁ at x)))
 one_judged f e₁ o₁ e₂ o₂ j₁ j₂ a b c d n l₁ l₂ m₁ m₂ (cramped v l) y = absurd (not_cramped f e₁ o₁ m₁ v l)
@@ -203,9 +200,9 @@ one_judged f e₁ o₁ e₂ o₂ j₁ j₂ a b c d n l₁ l₂ m₁ m₂ (listed
 one_judged f e₁ o₁ e₂ o₂ j₁ j₂ a b c d n l₁ l₂ m₁ m₂ (listed {f = x} v p w) (listed {f = y} v' p' w') =
     let flags : x ≡ y = same_flag f o₁ o₂ b d x y w w' in
     let lines = joined_same (line_at (front e₁ (events_of f)) b) (line_at (front e₂ (events_of f)) d) (length (events_of f)) each in (
-      ap (λ (z : Flag). Listed (length (events_of f)) z) flags,
+      ap (λ (z : Option ℕ). Ok (length (events_of f), z)) flags,
       ap (λ (z : List ℕ). header ++ z ++ last_line x) lines
-          ∙ ap (λ (z : Flag). header ++ joined (line_at (front e₂ (events_of f)) d) (length (events_of f)) ++ last_line z) flags,
+          ∙ ap (λ (z : Option ℕ). header ++ joined (line_at (front e₂ (events_of f)) d) (length (events_of f)) ++ last_line z) flags,
     )
   where
     each : (k : ℕ) → k < length (events_of f) → line_at (front e₁ (events_of f)) b k ≡ line_at (front e₂ (events_of f)) d k
@@ -217,7 +214,7 @@ one_judged f e₁ o₁ e₂ o₂ j₁ j₂ a b c d n l₁ l₂ m₁ m₂ (listed
 
 one_from : (v : Verdict) (f t₁ t₂ : List ℕ) (r₁ r₂ : Outcome) → verdict f row_room event_room ≡ v → Lists f t₁ r₁ → Lists f t₂ r₂
     → (t₁ ≡ t₂) × (r₁ ≡ r₂)
-one_from verdict.Passed f t₁ t₂ r₁ r₂ v x y =
+one_from (Ok _) f t₁ t₂ r₁ r₂ v x y =
     let g : GoodFile f (contents_of f) = ((read_exactly f row_room event_room).0 v).0 in
     let s = x.leaves in
     let t = y.leaves in
@@ -227,7 +224,7 @@ one_from verdict.Passed f t₁ t₂ r₁ r₂ v x y =
     one_judged f s.events_before s.results_before t.events_before t.results_before x.judged y.judged x.events
     x.results y.events y.results (length f) s.event_room_is t.event_room_is s.result_room_is t.result_room_is h i in
     (x.text_is ∙ q ∙ sym y.text_is, x.outcome_is ∙ ap outcome_of p ∙ sym y.outcome_is)
-one_from (verdict.Refused r) f t₁ t₂ r₁ r₂ v x y =
+one_from (Err r) f t₁ t₂ r₁ r₂ v x y =
     let bad : GoodFile f (contents_of f) → ⊥ = λ g. clash (sym (passes f event_room (omega arith) g) ∙ v) in
     let a = other_text f t₁ r₁ bad x in
     let b = other_text f t₂ r₂ bad y in

@@ -1,4 +1,5 @@
 -- What is told with a listing that stands in memory. Assumes nothing.
+use Rattle.std.specs.Prelude.{Option, Some, None, Ok, Err}
 use mathlib.Core.Path.{◌≡◌, refl, sym, ◌∙◌, ap}
 use mathlib.Core.List.{List}
 use mathlib.Core.Logic.{◌↔◌}
@@ -14,8 +15,6 @@ use Rattle.table.specs.Refusals as table
 use Rattle.table.specs.declared.answer.Refusal.TheVariants as content
 use Rattle.flaw.specs.Flaws as flaw
 use Rattle.flaw.specs.declared.Flaw.TheVariants.{Check, Kind, Order, ByteOne, Number, Used, Source, Fill}
-use Rattle.session.specs.declared.Flag.{Flag}
-use Rattle.session.specs.declared.Flag.TheVariants as flag
 use Rattle.lines.specs.Lines.{header, refused_line}
 use Rattle.house.specs.Limits.{most_bytes}
 use Rattle.house.specs.File.{events_of, contents_of}
@@ -24,15 +23,13 @@ use Rattle.house.specs.Reading.{verdict}
 use Rattle.house.specs.Refusals.{told}
 use Rattle.house.specs.declared.answer.Refusal.{Refusal}
 use Rattle.house.specs.declared.answer.Refusal.TheVariants.{Length, Block, Standard, Content}
-use Rattle.house.specs.declared.answer.Verdict.TheVariants as verdict
 use Rattle.house.proofs.Laws.{read_exactly}
 use Rattle.lister.specs.Judging.{row_room, RunsFile, Judges, refused, cramped, listed}
 use Rattle.lister.specs.Listing.{event_room, result_room, true_length, listing_of, events_in, outcome_of, Kept}
 use Rattle.lister.specs.Putting.{text_room, refusal_told, flag_told, summary_of, outcome_told, short, put}
 use Rattle.lister.specs.Laws.{TextShort, TextNone, TextFits, TextPlaced, TextLists, TextGood, GoodSummary, GoodTold}
 use Rattle.lister.specs.Laws.{OtherSummary, OtherTold, OneText}
-use Rattle.lister.specs.declared.judge.Judged.{Judged}
-use Rattle.lister.specs.declared.judge.Judged.TheVariants.{Refused, Ran as Listed}
+use Rattle.lister.specs.Judged.{Judged}
 use Rattle.lister.proofs.Built.{few_listed}
 use Rattle.lister.proofs.Lengths.{own_length, too_long}
 use Rattle.lister.proofs.Listed.{clash, refusals, passes, good_short, whole, long, not_cramped, one_judged}
@@ -46,8 +43,8 @@ text_short s n o r o' h (put e l f) = absurd (omega (arith, leb-true text_room (
 -- every listing begins with a word
 some_bytes : (j : Judged) (n : ℕ) (events results : List ℕ) → 0 < length (listing_of j n events results)
 unfolding header refused_line
-some_bytes (Refused r) n events results = simp length-append (omega arith)
-some_bytes (Listed m f) n events results = simp length-append (omega arith)
+some_bytes (Err r) n events results = simp length-append (omega arith)
+some_bytes (Ok (m, f)) n events results = simp length-append (omega arith)
 
 pub text_none : TextNone
 text_none s n o r o' (short e) = (λ _. leb-false text_room (length o) e, λ _. refl)
@@ -62,13 +59,13 @@ text_fits s n o r o' (put e l f) = f
 
 -- THE FLAG
 
-flag_within : (s o o' : List ℕ) (f : Flag) → RunsFile s o o' f → (place : ℕ) → f ≡ flag.At place → place < length (events_of s)
-flag_within s o o' flag.None w place e = absurd (let z : ◌≡◌ {A = ℕ} 0 1 = cc in omega arith)
-flag_within s o o' (flag.At k) w place e =
+flag_within : (s o o' : List ℕ) (f : Option ℕ) → RunsFile s o o' f → (place : ℕ) → f ≡ Some place → place < length (events_of s)
+flag_within s o o' None w place e = absurd (let z : ◌≡◌ {A = ℕ} 0 1 = cc in omega arith)
+flag_within s o o' (Some k) w place e =
     let same : k ≡ place = cc in
     omega (arith, same, w.flag.0, events_length (events_of s))
 
-placed : {s e o : List ℕ} {j : Judged} {e' o' : List ℕ} → Judges s e o j e' o' → (place : ℕ) → flag_told j ≡ flag.At place
+placed : {s e o : List ℕ} {j : Judged} {e' o' : List ℕ} → Judges s e o j e' o' → (place : ℕ) → flag_told j ≡ Some place
     → place < events_in j
 placed (refused v) place e = absurd (let z : ◌≡◌ {A = ℕ} 0 1 = cc in omega arith)
 placed (cramped v l) place e = absurd (let z : ◌≡◌ {A = ℕ} 0 1 = cc in omega arith)
@@ -107,8 +104,8 @@ numbered (Content (content.Buffer n)) e = omega arith
 
 -- so it tells what the listing comes to
 same_outcome : (j : Judged) (n : ℕ) (text : List ℕ) → outcome_told (summary_of j n text) ≡ outcome_of j
-same_outcome (Refused r) n text = rw (ne_eqb (told (true_length r n)).number 0 (numbered (true_length r n)))
-same_outcome (Listed m f) n text = refl
+same_outcome (Err r) n text = rw (ne_eqb (told (true_length r n)).number 0 (numbered (true_length r n)))
+same_outcome (Ok (m, f)) n text = refl
 
 pub text_lists : TextLists
 text_lists f s o r o' k l (short e) = absurd (omega (arith, l, leb-false text_room (length o) e))
@@ -132,7 +129,7 @@ kept_good : (f s : List ℕ) → Kept f s → GoodFile f (contents_of f) → Goo
 kept_good f s k g = rw (whole f s (good_short f g) k) g
 
 -- and of no other file passes
-passed_good : (f s : List ℕ) (room : ℕ) → Kept f s → verdict s row_room room ≡ verdict.Passed → GoodFile f (contents_of f)
+passed_good : (f s : List ℕ) (room : ℕ) → Kept f s → verdict s row_room room ≡ Ok tt → GoodFile f (contents_of f)
 passed_good f s room k v =
     elim (dec_le (length f) most_bytes) [
       | yes l ↦ rw (whole f s l k) at ((read_exactly s row_room room).0 v).0

@@ -1,12 +1,10 @@
 -- What is shown of listing, each under one sentence. proofs/Laws.antt proves them all. Assumes nothing.
-use Rattle.std.specs.Prelude.{◌≡◌, true, List, ◌++◌, ◌↔◌, ℕ, suc, ◌-◌, ◌≤◌, ◌<◌, length, take, drop, get_or}
+use Rattle.std.specs.Prelude.{◌≡◌, List, ◌++◌, ◌↔◌, ℕ, suc, ◌-◌, ◌≤◌, ◌<◌, length, take, drop, get_or, Option, Some, None, Ok, Err}
 use Rattle.model.specs.Table.{Table}
 use Rattle.model.specs.Model.{box, events, Set, Plausible, FlagIs}
 use Rattle.table.specs.Bytes.{table_of}
 use Rattle.table.specs.Refusals.{told_at}
 use Rattle.session.specs.Session.{place_of}
-use Rattle.session.specs.declared.Flag.{Flag}
-use Rattle.session.specs.declared.Flag.TheVariants as flag
 use Rattle.lines.specs.Texts.{most_text, text_of}
 use Rattle.lines.specs.Lines.{header, last_line, refused_line, consistent, flagged, refused}
 use Rattle.lines.specs.Laws.{Tells}
@@ -16,7 +14,6 @@ use Rattle.house.specs.Limits.{most_bytes}
 use Rattle.house.specs.File.{rows_of, events_of, contents_of}
 use Rattle.house.specs.Reading.{verdict}
 use Rattle.house.specs.Refusals.{told}
-use Rattle.house.specs.declared.answer.Verdict.TheVariants as verdict
 use Rattle.house.specs.Laws.{GoodFile}
 use Rattle.house.specs.declared.answer.Refusal.{Refusal}
 use Rattle.lister.specs.Judging.{row_room, rows_meant, RunsFile, Judges}
@@ -26,8 +23,7 @@ use Rattle.lister.specs.Putting.{text_room, no_summary, outcome_told, Texts}
 use Rattle.lister.specs.declared.Summary.{Summary}
 use Rattle.lister.specs.declared.Outcome.{Outcome}
 use Rattle.lister.specs.declared.Outcome.TheVariants as outcome
-use Rattle.lister.specs.declared.judge.Judged.{Judged}
-use Rattle.lister.specs.declared.judge.Judged.TheVariants.{Refused, Ran as Listed}
+use Rattle.lister.specs.Judged.{Judged}
 
 -- WHAT IS JUDGED
 
@@ -41,12 +37,12 @@ OneJudging =
 abbrev pub GoodListed : Type 0
 GoodListed =
     (s e o : List ℕ) (j : Judged) (e' o' : List ℕ) → event_room ≤ length e → result_room ≤ length o → GoodFile s (contents_of s)
-    → Judges s e o j e' o' → (f : Flag) × (j ≡ Listed (length (events_of s)) f) × RunsFile s o o' f
+    → Judges s e o j e' o' → (f : Option ℕ) × (j ≡ Ok (length (events_of s), f)) × RunsFile s o o' f
 
 -- Only a file that is not good is refused.
 abbrev pub OnlyBadRefused : Type 0
 OnlyBadRefused =
-    (s e o : List ℕ) (r : Refusal) (e' o' : List ℕ) → event_room ≤ length e → result_room ≤ length o → Judges s e o (Refused r) e' o'
+    (s e o : List ℕ) (r : Refusal) (e' o' : List ℕ) → event_room ≤ length e → result_room ≤ length o → Judges s e o (Err r) e' o'
     → GoodFile s (contents_of s) → ⊥
 
 -- PIECE BY PIECE
@@ -60,7 +56,7 @@ PiecesJoined =
 abbrev pub Bytes : List ℕ → Type 0
 Bytes l = (i : ℕ) → get_or l i 0 < 256
 
--- No piece is cut short: each fits in a text, whose used bytes it is.
+-- No piece is cut short: each fits in a text, whose bytes it is.
 abbrev pub PieceFits : Type 0
 PieceFits =
     (j : Judged) (n : ℕ) (events results : List ℕ) (k : ℕ) → Bytes events → Bytes results
@@ -69,7 +65,7 @@ PieceFits =
 abbrev pub PieceHeld : Type 0
 PieceHeld =
     (j : Judged) (n : ℕ) (events results : List ℕ) (k : ℕ) → Bytes events → Bytes results
-    → take (text_of (piece_of j n events results k)).used (text_of (piece_of j n events results k)).bytes ≡ piece_of j n events results k
+    → text_of (piece_of j n events results k) ≡ piece_of j n events results k
 
 -- The line says that the listing came to this: its first word is `consistent`, `flagged` or `refused`.
 abbrev pub Says : Outcome → List ℕ → Type 0
@@ -91,8 +87,8 @@ OneSaid = (a b : Outcome) (line : List ℕ) → Says a line → Says b line → 
 -- that it tells.
 abbrev pub WholeInput : Type 0
 WholeInput =
-    (buffer : List ℕ) (r : Input) → length buffer ≡ suc most_bytes → Keeps buffer r → r.whole ≡ true
-    → (f : List ℕ) × Kept f (take r.kept buffer) × (length f ≡ r.length)
+    (buffer : List ℕ) (r : Input) (n : ℕ) → length buffer ≡ suc most_bytes → Keeps buffer r → r.length ≡ Ok n
+    → (f : List ℕ) × Kept f (take r.kept buffer) × (length f ≡ n)
 
 -- The table that a file means, and the plausible set after the first k of its events.
 abbrev pub table_meant : List ℕ → Table
@@ -104,7 +100,7 @@ PlausibleAfter f k = Plausible (box (table_meant f)) (contents_of f).waiting (co
 
 -- Of a good file: the header; for each event the line that tells the plausible set after it; and the last line, by the flag.
 pub record GoodListing (f text : List ℕ) (r : Outcome) : Type 0 where
-  pub flag : Flag
+  pub flag : Option ℕ
   pub line : ℕ → List ℕ
   pub flag_is : FlagIs (box (table_meant f)) (contents_of f).waiting (contents_of f).losses (events (events_of f)) (place_of flag)
   pub tells : (k : ℕ) → k < length (events_of f) → Tells (PlausibleAfter f (suc k)) k (get_or (events_of f) k 0) (line k)
@@ -117,7 +113,7 @@ GoodText = (f text : List ℕ) (r : Outcome) → GoodFile f (contents_of f) → 
 -- Of any other file: the one line with document 01's number and places of its refusal, and nothing besides.
 pub record OtherListing (f text : List ℕ) (r : Outcome) : Type 0 where
   pub refusal : Refusal
-  pub refused_by : verdict f row_room event_room ≡ verdict.Refused refusal
+  pub refused_by : verdict f row_room event_room ≡ Err refusal
   pub text_is : text ≡ refused_line (told refusal)
   pub outcome_is : r ≡ outcome.Refused
 
@@ -146,7 +142,7 @@ TextFits = (s : List ℕ) (n : ℕ) (o : List ℕ) (r : Summary) (o' : List ℕ)
 -- There are at most 4,096 events, and a flag's place is that of one of them.
 pub record Placed (r : Summary) : Type 0 where
   pub few : r.events ≤ event_room
-  pub within : (place : ℕ) → r.flag ≡ flag.At place → place < r.events
+  pub within : (place : ℕ) → r.flag ≡ Some place → place < r.events
 
 abbrev pub TextPlaced : Type 0
 TextPlaced = (s : List ℕ) (n : ℕ) (o : List ℕ) (r : Summary) (o' : List ℕ) → Texts s n o r o' → Placed r
@@ -177,10 +173,10 @@ GoodTold =
 -- With any other's are told document 01's number and places of its refusal, no events and no flag.
 pub record OtherSummary (f : List ℕ) (r : Summary) : Type 0 where
   pub refusal : Refusal
-  pub refused_by : verdict f row_room event_room ≡ verdict.Refused refusal
+  pub refused_by : verdict f row_room event_room ≡ Err refusal
   pub told_is : r.told ≡ told refusal
   pub events_are : r.events ≡ 0
-  pub flag_is : r.flag ≡ flag.None
+  pub flag_is : r.flag ≡ None
 
 abbrev pub OtherTold : Type 0
 OtherTold =

@@ -1,3 +1,4 @@
+pub mod Judged
 pub mod Judging
 pub mod Listing
 pub mod Putting

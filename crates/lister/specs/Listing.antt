@@ -1,15 +1,13 @@
 -- Document 01, "Small cases": what the listing program prints of a file, byte by byte, and what it answers. Assumes nothing.
-use Rattle.std.specs.Prelude.{◌≡◌, Bool, cond, List, [], ◌++◌, ℕ, zero, suc, ◌+◌, ◌-◌, ◌*◌, ◌/◌, ◌<◌, eqb, ltb, leb, length, take, drop, get_or}
-use Rattle.session.specs.declared.Flag.{Flag}
-use Rattle.session.specs.declared.Flag.TheVariants as flag
+use Rattle.std.specs.Prelude.{◌≡◌, Bool, true, cond, Option, List, [], ◌++◌, ℕ, zero, suc, ◌+◌, ◌-◌, ◌*◌, ◌/◌, ◌<◌, eqb, ltb, leb, length, take, drop, get_or, Some, None, Ok, Err}
+use Rattle.std.specs.Io.KnownBytes.{Appends}
 use Rattle.lines.specs.Lines.{header, event_line, last_line, refused_line}
 use Rattle.house.specs.Limits.{most_bytes}
 use Rattle.house.specs.Refusals.{told}
 use Rattle.house.specs.declared.answer.Refusal.{Refusal}
 use Rattle.house.specs.declared.answer.Refusal.TheVariants as refusal
 use Rattle.lister.specs.Judging.{Judges}
-use Rattle.lister.specs.declared.judge.Judged.{Judged}
-use Rattle.lister.specs.declared.judge.Judged.TheVariants.{Refused, Ran as Listed}
+use Rattle.lister.specs.Judged.{Judged}
 use Rattle.lister.specs.declared.Outcome.{Outcome}
 use Rattle.lister.specs.declared.Outcome.TheVariants as outcome
 
@@ -49,36 +47,36 @@ joined text (suc k) = joined text k ++ text k
 -- It prints exactly: the header, a line an event, the last line; or the one line of a refused file. The file has n bytes; its events, and
 -- the results of the run over them, are what `Judges` leaves.
 abbrev pub listing_of : Judged → ℕ → List ℕ → List ℕ → List ℕ
-listing_of (Refused r) n events results = refusal_line r n
-listing_of (Listed m f) n events results = header ++ joined (line_at events results) m ++ last_line f
+listing_of (Err r) n events results = refusal_line r n
+listing_of (Ok (m, f)) n events results = header ++ joined (line_at events results) m ++ last_line f
 
 -- PIECE BY PIECE
 
 -- Piece 0 is the header, piece k + 1 the line of event k, and the last line follows.
-abbrev pub run_piece : ℕ → Flag → List ℕ → List ℕ → ℕ → List ℕ
+abbrev pub run_piece : ℕ → Option ℕ → List ℕ → List ℕ → ℕ → List ℕ
 run_piece m f events results k = cond (eqb k 0) header (cond (leb k m) (line_at events results (k - 1)) (last_line f))
 
 abbrev pub piece_of : Judged → ℕ → List ℕ → List ℕ → ℕ → List ℕ
-piece_of (Refused r) n events results k = refusal_line r n
-piece_of (Listed m f) n events results k = run_piece m f events results k
+piece_of (Err r) n events results k = refusal_line r n
+piece_of (Ok (m, f)) n events results k = run_piece m f events results k
 
 abbrev pub events_in : Judged → ℕ
-events_in (Refused r) = 0
-events_in (Listed m f) = m
+events_in (Err r) = 0
+events_in (Ok (m, f)) = m
 
 abbrev pub pieces_of : Judged → ℕ
-pieces_of (Refused r) = 1
-pieces_of (Listed m f) = m + 2
+pieces_of (Err r) = 1
+pieces_of (Ok (m, f)) = m + 2
 
 -- WHAT IS ANSWERED
 
-abbrev pub verdict_of : Flag → Outcome
-verdict_of flag.None = outcome.Consistent
-verdict_of (flag.At place) = outcome.Flagged
+abbrev pub verdict_of : Option ℕ → Outcome
+verdict_of None = outcome.Consistent
+verdict_of (Some place) = outcome.Flagged
 
 abbrev pub outcome_of : Judged → Outcome
-outcome_of (Refused r) = outcome.Refused
-outcome_of (Listed m f) = verdict_of f
+outcome_of (Err r) = outcome.Refused
+outcome_of (Ok (m, f)) = verdict_of f
 
 -- A listing that could not be written comes to nothing.
 abbrev pub unless_broken : Bool → Outcome → Outcome
@@ -100,6 +98,12 @@ pub record Comes (s : List ℕ) (r : Outcome) : Type 0 where
   pub leaves : Leaves s judged events results
   pub said : Bool
   pub is : r ≡ unless_broken said (outcome_of judged)
+
+-- What listing these bytes, kept of a file of n bytes, leaves in a writer: unless it could not be written, the whole listing stands behind
+-- what the writer had, as far as the writer's bytes are known.
+pub record Writes (before after : Option (List ℕ)) (s : List ℕ) (n : ℕ) (r : Outcome) : Type 0 where
+  pub comes : Comes s r
+  pub written : comes.said ≡ true → Appends before after (listing_of comes.judged n comes.events comes.results)
 
 -- Bytes that were kept of a file: all of it, or more of its start than a house file has.
 abbrev pub Kept : List ℕ → List ℕ → Type 0

@@ -1,15 +1,12 @@
 -- The whole listing of a file in memory that is lent, and what is told with it, for every input. Assumes nothing.
-use Rattle.std.specs.Prelude.{◌≡◌, true, false, cond, List, ℕ, ◌+◌, ◌*◌, ◌≤◌, eqb, leb, length}
+use Rattle.std.specs.Prelude.{◌≡◌, true, false, cond, List, ℕ, ◌+◌, ◌*◌, ◌≤◌, eqb, leb, length, Option, None, Ok, Err}
 use Rattle.lent.specs.Lent.{front}
 use Rattle.table.specs.Refusals.{told_at}
 use Rattle.table.specs.declared.answer.Told.{Told}
-use Rattle.session.specs.declared.Flag.{Flag}
-use Rattle.session.specs.declared.Flag.TheVariants as flag
 use Rattle.lines.specs.Texts.{most_text}
 use Rattle.house.specs.Refusals.{told}
 use Rattle.lister.specs.Listing.{event_room, true_length, joined, listing_of, events_in, verdict_of, Leaves}
-use Rattle.lister.specs.declared.judge.Judged.{Judged}
-use Rattle.lister.specs.declared.judge.Judged.TheVariants.{Refused, Ran as Listed}
+use Rattle.lister.specs.Judged.{Judged}
 use Rattle.lister.specs.declared.Outcome.{Outcome}
 use Rattle.lister.specs.declared.Outcome.TheVariants as outcome
 use Rattle.lister.specs.declared.Summary.{Summary}
@@ -26,13 +23,13 @@ text_room = most_pieces * most_text
 
 -- The number and the places of a refusal, as the listing of a file of n bytes has them. What is not refused has number 0, and places 0.
 abbrev pub refusal_told : Judged → ℕ → Told
-refusal_told (Refused r) n = told (true_length r n)
-refusal_told (Listed m f) n = told_at 0 0
+refusal_told (Err r) n = told (true_length r n)
+refusal_told (Ok (m, f)) n = told_at 0 0
 
 -- A refused file has no flag.
-abbrev pub flag_told : Judged → Flag
-flag_told (Refused r) = flag.None
-flag_told (Listed m f) = f
+abbrev pub flag_told : Judged → Option ℕ
+flag_told (Err r) = None
+flag_told (Ok (m, f)) = f
 
 -- What is told with this text.
 abbrev pub summary_of : Judged → ℕ → List ℕ → Summary
@@ -40,7 +37,7 @@ summary_of j n text = record { told = refusal_told j n; bytes = length text; eve
 
 -- What is told where nothing is put.
 abbrev pub no_summary : Summary
-no_summary = record { told = told_at 0 0; bytes = 0; events = 0; flag = flag.None }
+no_summary = record { told = told_at 0 0; bytes = 0; events = 0; flag = None }
 
 -- What the listing comes to that this is told with.
 abbrev pub outcome_told : Summary → Outcome

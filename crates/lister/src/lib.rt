@@ -1,18 +1,19 @@
 // Lists a house file: reads it, runs its trace, and writes the listing piece by piece, a line each, to a writer, as a descriptor is, or into
 // memory that is lent. No input, however damaged, stops it; a failed read or write ends it. Which bytes a piece is, and how many there are,
-// specs/Listing.antt says; only `put`, `say`, `say_all`, `list_file`, `list_from` and `list` read or write, and of what they write no
-// contract speaks.
+// specs/Listing.antt says; only `put`, `say_all`, `list_file`, `list_from` and `list` read or write. What the first three write is told of a
+// writer whose bytes are known; of what the last two read and write no contract speaks.
 #![tactic(auto)]
 
-ghost use Rattle.std.specs.Prelude.{◌≡◌};
-ghost use Rattle.lister.specs.Listing.{unless_broken, Comes};
+ghost use Rattle.std.specs.Prelude.{◌≤◌, OnOk};
+ghost use Rattle.std.specs.Io.KnownBytes.{Appends};
+ghost use Rattle.lister.specs.Listing.{event_room, events_in, listing_of, Writes};
 
+use house::MOST_EVENTS;
 use intake::Descriptor;
-use judge::Judged;
-use lines::Text;
+use judge::RESULT_ROOM;
 use output::Output;
-use session::Flag;
-use std::io::{Read, Write};
+use pieces::Listing;
+use std::io::{self, ErrorKind, Read, Write};
 use table::Told;
 
 mod judge;
@@ -23,7 +24,7 @@ mod whole;
 pub use whole::text;
 
 // Bytes that are enough for every listing: the header, 4,096 events and the last line, of 96 bytes each at most.
-pub const LISTING_ROOM: usize = (4096 + 2) * 96;
+pub const LISTING_ROOM: usize = (MOST_EVENTS + 2) * 96;
 
 // What the listing came to.
 #[derive(Clone, Copy)]
@@ -44,84 +45,62 @@ pub struct Summary {
     pub bytes: usize,
     // How many events the file has; none, where it is refused.
     pub events: usize,
-    pub flag: Flag,
+    pub flag: Option<usize>,
 }
 
-// Writes all the bytes, or stops at the first write that takes none or fails.
-fn put<W: Write>(output: &mut W, bytes: &[u8]) -> bool {
-    let mut done = 0;
-    while done < bytes.len() {
-        match output.write(&bytes[done..]) {
-            Ok(0) => return false,
-            Ok(n) => done += n,
-            Err(_) => return false,
-        }
-    }
-    true
-}
-
-fn say<W: Write>(output: &mut W, t: Text) -> bool {
-    let bytes = t.bytes;
-    put(output, lent::front(&bytes, t.used))
-}
-
-// The first n pieces, one after another.
-fn say_all<'a, W: Write>(
-    output: &mut W,
-    n: usize,
-    judged: Judged,
-    length: usize,
-    events: &'a [u8],
-    results: &'a [u8],
-) -> bool {
-    let mut k: usize = 0;
-    while k < n {
-        if !say(
-            &mut *output,
-            pieces::piece(judged, length, events, results, k),
-        ) {
-            return false;
-        }
-        k += 1;
-    }
-    true
-}
-
-fn told(said: bool, outcome: Outcome) -> Outcome
-    ensures { result ≡ unless_broken said outcome }
+// Writes all the bytes, or stops at the first write that takes none or fails; `write_all` would make one again that a signal interrupted.
+fn put<W: Write>(output: &mut W, bytes: &[u8]) -> io::Result<()>
+    ensures { OnOk result (Appends (W.contents output.old) (W.contents output.new) bytes.now) }
 {
-    if said {
-        return outcome;
+    let mut rest = bytes;
+    while !rest.is_empty() {
+        match output.write(rest)? {
+            0 => return Err(io::Error::from(ErrorKind::WriteZero)),
+            n => rest = &rest[n..],
+        }
     }
-    Outcome::Broken
+    Ok(())
+}
+
+// All pieces, one after another.
+fn say_all<W: Write>(output: &mut W, listing: &Listing<'_>) -> io::Result<()>
+    requires { events_in listing.now.judged ≤ event_room }
+    ensures { OnOk result (Appends (W.contents output.old) (W.contents output.new)
+        (listing_of listing.now.judged listing.now.length listing.now.events.now listing.now.results.now)) }
+{
+    for k in 0..listing.pieces() {
+        put(&mut *output, listing.piece(k).as_bytes())?;
+    }
+    Ok(())
 }
 
 // The listing of a file, of which these bytes were kept, and which has this length.
 fn list_file<W: Write>(output: &mut W, file: &[u8], length: usize) -> Outcome
-    ensures { Comes file.now result }
+    ensures { Writes (W.contents output.old) (W.contents output.new) file.now length result }
 {
-    let mut events = judge::event_room();
-    let mut results = judge::result_room();
+    let mut events = [0; MOST_EVENTS];
+    let mut results = [0; RESULT_ROOM];
     let judged = judge::judge(file, &mut events, &mut results);
-    let said = say_all(
-        output,
-        pieces::pieces(judged),
+    let listing = Listing {
         judged,
         length,
-        &events,
-        &results,
-    );
-    told(said, pieces::outcome(judged))
+        events: &events,
+        results: &results,
+    };
+    match say_all(output, &listing) {
+        Ok(()) => listing.outcome(),
+        Err(_) => Outcome::Broken,
+    }
 }
 
 // Lists the house file that `input` gives to its end; the listing goes to `output`.
 pub fn list_from<R: Read, W: Write>(input: &mut R, output: &mut W) -> Outcome {
     let mut file = intake::file_room();
     let came = intake::keep_from(input, &mut file);
-    if !came.whole {
-        return Outcome::Broken;
+    match came.length {
+        Ok(length) => list_file(output, lent::front(&file, came.kept), length),
+        Err(_) => Outcome::Broken,
     }
-    list_file(output, lent::front(&file, came.kept), came.length)
 }
 
 // The same from one descriptor to another.

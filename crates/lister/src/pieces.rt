@@ -1,8 +1,7 @@
 // The pieces of a listing, a line each: the header, a line an event and the last line, or the one line of a refused file.
 // specs/Listing.antt says which bytes they are.
-ghost use Rattle.std.specs.Prelude.{◌≡◌, ◌≤◌, take};
-ghost use Rattle.lines.specs.Texts.{text_of};
-ghost use Rattle.lister.specs.Listing.{event_room, twelve_of, line_at, run_piece, piece_of, refusal_line, true_length};
+ghost use Rattle.std.specs.Prelude.{◌≡◌, ◌≤◌};
+ghost use Rattle.lister.specs.Listing.{event_room, twelve_of, line_at, run_piece, piece_of, true_length};
 ghost use Rattle.lister.specs.Listing.{events_in, pieces_of, verdict_of, outcome_of};
 ghost use Rattle.lister.specs.Putting.{refusal_told, flag_told};
 
@@ -10,37 +9,22 @@ use super::Outcome;
 use super::judge::Judged;
 use house::Refusal;
 use lines::Text;
-use session::Flag;
-use table::Told;
+use table::{Tell, Told};
+
+// What the listing of a file is made of: how the file is judged, its length, its events and the results of the run over them.
+#[derive(Clone, Copy)]
+pub(crate) struct Listing<'a> {
+    pub(crate) judged: Judged,
+    pub(crate) length: usize,
+    pub(crate) events: &'a [u8],
+    pub(crate) results: &'a [u8],
+}
 
 // The twelve bytes of event k among a run's results; none, where there are not so many.
 fn twelve(results: &[u8], k: usize) -> &[u8]
     ensures { result.now ≡ twelve_of results.now k }
 {
-    if k < results.len() / 12 {
-        return &results[12 * k..12 * k + 12];
-    }
-    &results[..0]
-}
-
-// The line of event k.
-fn line<'a>(events: &'a [u8], results: &'a [u8], k: usize) -> Text
-    ensures { result ≡ text_of (line_at events.now results.now k) }
-{
-    lines::event(k, lines::byte(events, k), twelve(results, k))
-}
-
-// Piece k of the listing of a run over n events.
-fn of_run<'a>(n: usize, flag: Flag, events: &'a [u8], results: &'a [u8], k: usize) -> Text
-    ensures { result ≡ text_of (run_piece n flag events.now results.now k) }
-{
-    if k == 0 {
-        return lines::first();
-    }
-    if k <= n {
-        return line(events, results, k - 1);
-    }
-    lines::last(flag)
+    results.chunks_exact(12).nth(k).unwrap_or(&[])
 }
 
 // A file that is too long is told with its true length, of which only a part was kept.
@@ -49,96 +33,92 @@ fn true_length(r: Refusal, length: usize) -> Refusal
 {
     match r {
         Refusal::Length(_) => Refusal::Length(length),
-        Refusal::Block(flaw, block) => Refusal::Block(flaw, block),
-        Refusal::Standard => Refusal::Standard,
-        Refusal::Content(content) => Refusal::Content(content),
+        other => other,
     }
 }
 
-// The only line of a refused file.
-fn of_refusal(r: Refusal, length: usize) -> Text
-    ensures { result ≡ text_of (refusal_line r length) }
-{
-    lines::refused(house::tell(true_length(r, length)))
-}
-
-// Piece k of the listing of a file of this length.
-pub(crate) fn piece<'a>(
-    judged: Judged,
-    length: usize,
-    events: &'a [u8],
-    results: &'a [u8],
-    k: usize,
-) -> Text
-    ensures value { result ≡ text_of (piece_of judged length events.now results.now k) }
-    ensures bytes_value { take result.used result.bytes ≡ piece_of judged length events.now results.now k }
-{
-    match judged {
-        Judged::Refused(r) => of_refusal(r, length),
-        Judged::Ran(n, flag) => of_run(n, flag, events, results, k),
-    }
-}
-
-// How many pieces there are.
-pub(crate) fn pieces(judged: Judged) -> usize
-    requires { events_in judged ≤ event_room }
-    ensures { result ≡ pieces_of judged }
-{
-    match judged {
-        Judged::Refused(_) => 1,
-        Judged::Ran(n, _) => n + 2,
-    }
-}
-
-fn verdict(flag: Flag) -> Outcome
+fn verdict(flag: Option<usize>) -> Outcome
     ensures { result ≡ verdict_of flag }
 {
     match flag {
-        Flag::None => Outcome::Consistent,
-        Flag::At(_) => Outcome::Flagged,
+        None => Outcome::Consistent,
+        Some(_) => Outcome::Flagged,
     }
 }
 
-// What the last line says.
-pub(crate) fn outcome(judged: Judged) -> Outcome
-    ensures { result ≡ outcome_of judged }
-{
-    match judged {
-        Judged::Refused(_) => Outcome::Refused,
-        Judged::Ran(_, flag) => verdict(flag),
+impl Listing<'_> {
+    // The line of event k.
+    fn line(&self, k: usize) -> Text
+        ensures { result ≡ line_at self.now.events.now self.now.results.now k }
+    {
+        lines::event(k, lines::byte(self.events, k), twelve(self.results, k))
     }
-}
 
-// The number and the places of the refusal of a file of this length; zeros, where there is none.
-pub(crate) fn refusal(judged: Judged, length: usize) -> Told
-    ensures { result ≡ refusal_told judged length }
-{
-    match judged {
-        Judged::Refused(r) => house::tell(true_length(r, length)),
-        Judged::Ran(_, _) => Told {
-            number: 0,
-            place: 0,
-            second: 0,
-        },
+    // Piece k of the listing of a run over n events.
+    fn of_run(&self, n: usize, flag: Option<usize>, k: usize) -> Text
+        ensures { result ≡ run_piece n flag self.now.events.now self.now.results.now k }
+    {
+        if k == 0 {
+            return lines::first();
+        }
+        if k <= n {
+            return self.line(k - 1);
+        }
+        lines::last(flag)
     }
-}
 
-// How many events there are; none, where the file is refused.
-pub(crate) fn events(judged: Judged) -> usize
-    ensures { result ≡ events_in judged }
-{
-    match judged {
-        Judged::Refused(_) => 0,
-        Judged::Ran(n, _) => n,
+    // Piece k, and all of it.
+    pub(crate) fn piece(&self, k: usize) -> Text
+        ensures { result ≡ piece_of self.now.judged self.now.length self.now.events.now self.now.results.now k }
+    {
+        match self.judged {
+            Err(r) => lines::refused(true_length(r, self.length).tell()),
+            Ok((n, flag)) => self.of_run(n, flag, k),
+        }
     }
-}
 
-// The flag, if any.
-pub(crate) fn flag(judged: Judged) -> Flag
-    ensures { result ≡ flag_told judged }
-{
-    match judged {
-        Judged::Refused(_) => Flag::None,
-        Judged::Ran(_, flag) => flag,
+    // How many pieces there are.
+    pub(crate) fn pieces(&self) -> usize
+        requires { events_in self.now.judged ≤ event_room }
+        ensures { result ≡ pieces_of self.now.judged }
+    {
+        self.judged.map_or(1, |(n, _)| n + 2)
+    }
+
+    // What the last line says.
+    pub(crate) fn outcome(&self) -> Outcome
+        ensures { result ≡ outcome_of self.now.judged }
+    {
+        match self.judged {
+            Err(_) => Outcome::Refused,
+            Ok((_, flag)) => verdict(flag),
+        }
+    }
+
+    // The number and the places of the refusal; zeros, where there is none.
+    pub(crate) fn refusal(&self) -> Told
+        ensures { result ≡ refusal_told self.now.judged self.now.length }
+    {
+        match self.judged {
+            Err(r) => true_length(r, self.length).tell(),
+            Ok(_) => Told::NOTHING,
+        }
+    }
+
+    // How many events are listed; none, where the file is refused.
+    pub(crate) fn count(&self) -> usize
+        ensures { result ≡ events_in self.now.judged }
+    {
+        self.judged.map_or(0, |(n, _)| n)
+    }
+
+    // The flag, if any.
+    pub(crate) fn flag(&self) -> Option<usize>
+        ensures { result ≡ flag_told self.now.judged }
+    {
+        match self.judged {
+            Err(_) => None,
+            Ok((_, flag)) => flag,
+        }
     }
 }

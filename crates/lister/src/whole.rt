@@ -1,35 +1,27 @@
 // The whole listing in memory that is lent, and what is told with it. No function of this file touches a descriptor. specs/Putting.antt
 // says which bytes stand there.
-ghost use Rattle.std.specs.Prelude.{◌≡◌};
-ghost use Rattle.lister.specs.Listing.{piece_of};
+ghost use Rattle.std.specs.Prelude.{◌≡◌, ◌≤◌};
+ghost use Rattle.lister.specs.Listing.{event_room, events_in, piece_of, pieces_of};
 ghost use Rattle.lister.specs.Putting.{no_summary, Roomy, Puts, Texts};
 
-use super::judge::Judged;
-use super::{LISTING_ROOM, Summary, judge, pieces};
-use session::Flag;
+use super::judge::{self, RESULT_ROOM};
+use super::pieces::Listing;
+use super::{LISTING_ROOM, Summary};
+use house::MOST_EVENTS;
 use table::Told;
 
-// Puts the first n pieces one after another at the start of the memory, and tells how many bytes they are.
-fn put_all<'a>(
-    n: usize,
-    judged: Judged,
-    length: usize,
-    events: &'a [u8],
-    results: &'a [u8],
-    out: &mut [u8],
-) -> usize
-    requires { Roomy n out.old }
-    ensures { Puts (piece_of judged length events.now results.now) n out.old result out.new }
+// Puts all pieces one after another at the start of the memory, and tells how many bytes they are. `say_all` is a loop of its own: a writer may
+// fail, and this may not, since `text` answers every input.
+fn put_all(listing: &Listing<'_>, out: &mut [u8]) -> usize
+    requires room { Roomy (pieces_of listing.now.judged) out.old }
+    requires few { events_in listing.now.judged ≤ event_room }
+    ensures { Puts (piece_of listing.now.judged listing.now.length listing.now.events.now listing.now.results.now) (pieces_of listing.now.judged) out.old result out.new }
 {
-    let mut at: usize = 0;
-    let mut k: usize = 0;
-    while k < n {
-        let t = pieces::piece(judged, length, events, results, k);
-        let bytes = t.bytes;
-        let used = t.used;
-        lent::put_bytes(lent::front(&bytes, used), out, at);
-        at += used;
-        k += 1;
+    let mut at = 0;
+    for k in 0..listing.pieces() {
+        let piece = listing.piece(k);
+        lent::put(piece.as_bytes(), out, at);
+        at += piece.as_bytes().len();
     }
     at
 }
@@ -39,14 +31,10 @@ fn nothing() -> Summary
     ensures { result ≡ no_summary }
 {
     Summary {
-        told: Told {
-            number: 0,
-            place: 0,
-            second: 0,
-        },
+        told: Told::NOTHING,
         bytes: 0,
         events: 0,
-        flag: Flag::None,
+        flag: None,
     }
 }
 
@@ -58,21 +46,20 @@ pub fn text(file: &[u8], length: usize, out: &mut [u8]) -> Summary
     if out.len() < LISTING_ROOM {
         return nothing();
     }
-    let mut events = judge::event_room();
-    let mut results = judge::result_room();
+    let mut events = [0; MOST_EVENTS];
+    let mut results = [0; RESULT_ROOM];
     let judged = judge::judge(file, &mut events, &mut results);
-    let bytes = put_all(
-        pieces::pieces(judged),
+    let listing = Listing {
         judged,
         length,
-        &events,
-        &results,
-        &mut *out,
-    );
+        events: &events,
+        results: &results,
+    };
+    let bytes = put_all(&listing, out);
     Summary {
-        told: pieces::refusal(judged, length),
+        told: listing.refusal(),
         bytes,
-        events: pieces::events(judged),
-        flag: pieces::flag(judged),
+        events: listing.count(),
+        flag: listing.flag(),
     }
 }

@@ -1,7 +1,7 @@
 -- A device that does what another does, over related states, keeps what is plausible. Wider tables are a case of it. Assumes nothing.
+use Rattle.std.specs.Prelude.{Some}
 use mathlib.Core.Path.{◌≡◌, refl, ap}
 use mathlib.Core.List.{List, [], ◌∷◌, ◌++◌}
-use mathlib.Core.Option.{some}
 use Prim.Native.Nat.{ℕ, suc, ◌+◌, ◌-◌, ◌≤◌, ◌<◌}
 use native.Mathlib.Omega.{arith}
 use lib.ListN.{length}
@@ -17,8 +17,8 @@ pub record Mimics (D D' : Device) (R : D.State → D'.State → Type 0) : Type 0
   pub inputs : D'.inputs ≡ D.inputs
   pub outputs : D'.outputs ≡ D.outputs
   pub begins : R D.initial D'.initial
-  pub takes : (x y : D.State) (x' : D'.State) (a : ℕ) → a < D.inputs → R x x' → (D.taken x a ≡ some y) → (y' : D'.State) × (D'.taken x' a ≡ some y') × R y y'
-  pub sends : (x y : D.State) (x' : D'.State) (a : ℕ) → a < D.outputs → R x x' → (D.sent x a ≡ some y) → (y' : D'.State) × (D'.sent x' a ≡ some y') × R y y'
+  pub takes : (x y : D.State) (x' : D'.State) (a : ℕ) → a < D.inputs → R x x' → (D.taken x a ≡ Some y) → (y' : D'.State) × (D'.taken x' a ≡ Some y') × R y y'
+  pub sends : (x y : D.State) (x' : D'.State) (a : ℕ) → a < D.outputs → R x x' → (D.sent x a ≡ Some y) → (y' : D'.State) × (D'.sent x' a ≡ Some y') × R y y'
 
 module _ (D D' : Device) (R : D.State → D'.State → Type 0) (mimics : Mimics D D' R) (B c B' c' j : ℕ) (waits : B + j ≤ B') (loses : c + j ≤ c') where
   -- the extra inputs, in a line and in a trace
@@ -87,7 +87,7 @@ module _ (D D' : Device) (R : D.State → D'.State → Type 0) (mimics : Mimics 
   at_last : (m : Move) (p p₁ q : Place D'.State) → Reached D' B' c' p [] p₁ → Step D' p₁ m q → Within D' B' c' q → Reached D' B' c' p (seen m) q
   at_last m p p₁ q g st w = joined D' B' c' p p₁ q [] (seen m) g (once D' B' c' m p₁ q st w)
 
-  take_flushed : (a : ℕ) (s : D.State) (l : List ℕ) (p : Place D.State) (p' : Place D'.State) (x y : ℕ) → a < D.inputs → D.taken p.state a ≡ some s → Within D B c (place s l 0)
+  take_flushed : (a : ℕ) (s : D.State) (l : List ℕ) (p : Place D.State) (p' : Place D'.State) (x y : ℕ) → a < D.inputs → D.taken p.state a ≡ Some s → Within D B c (place s l 0)
       → Near p p' x y → Flushed a p'.state l p'.line p'.run x → Followed take (place s l 0) p' x y
   take_flushed a s l p p' x y v f w n g =
       let (s', f', e) = mimics.takes p.state s p'.state a v n.state f in

@@ -1,4 +1,7 @@
 -- A sound session, fed an input or an output. Assumes nothing.
+use Rattle.std.specs.Prelude.{Option, Some, None, Bool, true, false, not}
+use Rattle.std.specs.Option.{option_or}
+use Rattle.std.specs.Bool.{then_some}
 use mathlib.Core.Path.{◌≡◌, refl, sym, ◌∙◌, ap}
 use mathlib.Core.List.{List, [], ◌∷◌, ◌++◌, append-nil}
 use mathlib.Core.Logic.{◌⊎◌, inl, inr, ⊎_elim}
@@ -14,14 +17,17 @@ use Rattle.model.proofs.Flags.{lt_or_ge}
 use Rattle.model.proofs.Bytes.{input_byte, output_byte}
 use Rattle.table.specs.Bytes.{symbol_of}
 use Rattle.table.specs.declared.answer.Symbol.{Symbol}
-use Rattle.table.specs.declared.answer.Symbol.TheVariants.{Input, Output, Invalid}
+use Rattle.table.specs.declared.answer.Symbol.TheVariants.{Input, Output}
 use Rattle.table.proofs.Laws.{given_means}
 use Rattle.session.specs.declared.Session.{Session}
-use Rattle.session.specs.Sets.{InCell, Holds}
+use Rattle.states.specs.In.{Empty}
+use Rattle.states.specs.Decides.{Decides}
+use Rattle.session.specs.Sets.{InCell, Holds, Finds}
 use Rattle.monitor.specs.Sweep.{Packed, Ready, Contained}
+use Rattle.session.proofs.Laws.{finds_unless_empty}
 use Rattle.session.specs.Session.{used, table_in, kept, line, Sound}
 use Rattle.monitor.specs.Event.{Arrival, Departure}
-use Rattle.monitor.specs.Feed.{Shows, MovedOn, FedTo}
+use Rattle.monitor.specs.Feed.{Shows, FlagAfter, stays, clear, falls, MovedOn, FedTo, unsound, full, invalid, fed}
 use Rattle.monitor.proofs.Moves.{shifted_contained, shifted_arrived, sent_contained, sent_sent, fed_words}
 use Rattle.monitor.proofs.Lines.{shows_first, shown_take}
 
@@ -43,6 +49,15 @@ moved_from s set held arrived r m =
       inputs_seen = m.inputs_seen;
       flag = m.flag;
     }
+
+-- the flag stays, or falls where the set is empty
+pub flag_after : (event : ℕ) (set : List ℕ) (empty : Bool) (f o g : Option ℕ) → length set ≡ 264 → Decides empty (Empty set) → o ≡ then_some empty event → g ≡ option_or f o → FlagAfter event set f g
+flag_after event set empty f o g len d oe ge = rw (ge, oe) (go f empty (finds_unless_empty set empty len d))
+  where
+    go : (h : Option ℕ) (b : Bool) → Finds set (not b) → FlagAfter event set h (option_or h (then_some b event))
+    go (Some place) b found = stays
+    go None true found = falls (found.no refl)
+    go None false found = let (x, i) = found.yes refl in clear x i
 
 module _ (s : Session) (sound : Sound s) (held_long : length s.held ≡ 32) where
   T : Table
@@ -180,17 +195,20 @@ module _ (s : Session) (sound : Sound s) (held_long : length s.held ≡ 32) wher
 
 -- EVENT BYTES
 
-pub input_means : (b i o a : ℕ) → symbol_of b i o ≡ Input a → (a ≡ b) × (a < i) × (symbol_of b i o ≡ Invalid → ⊥)
+pub input_means : (b i o a : ℕ) → symbol_of b i o ≡ Some (Input a) → (a ≡ b) × (a < i) × (symbol_of b i o ≡ None → ⊥)
 input_means b i o a e = let m = (given_means b i o a).0 e in (m.0, m.1, λ f. let z : ◌≡◌ {A = ℕ} 0 1 = cc in omega arith)
 
-pub output_means : (b i o a : ℕ) → symbol_of b i o ≡ Output a → (128 + a ≡ b) × (a < o) × (symbol_of b i o ≡ Invalid → ⊥)
+pub output_means : (b i o a : ℕ) → symbol_of b i o ≡ Some (Output a) → (128 + a ≡ b) × (a < o) × (symbol_of b i o ≡ None → ⊥)
 output_means b i o a e = let m = (given_means b i o a).1 e in (m.0, m.1, λ f. let z : ◌≡◌ {A = ℕ} 0 1 = cc in omega arith)
 
+-- how a feed may end
+pub ruleset endings = (unsound, full, invalid, fed, input_means, output_means)
+
 -- a valid byte is an input or an output of the table
-pub event_cases : (b i o : ℕ) → (symbol_of b i o ≡ Invalid → ⊥) → ((a : ℕ) × (event b ≡ input a) × (a < i)) ⊎ ((a : ℕ) × (event b ≡ output a) × (a < o))
+pub event_cases : (b i o : ℕ) → (symbol_of b i o ≡ None → ⊥) → ((a : ℕ) × (event b ≡ input a) × (a < i)) ⊎ ((a : ℕ) × (event b ≡ output a) × (a < o))
 event_cases b i o v = go (symbol_of b i o) refl
   where
-    go : (x : Symbol) → symbol_of b i o ≡ x → ((a : ℕ) × (event b ≡ input a) × (a < i)) ⊎ ((a : ℕ) × (event b ≡ output a) × (a < o))
-    go (Input a) e = let m = (given_means b i o a).0 e in inl (a, m.2, m.1)
-    go (Output a) e = let m = (given_means b i o a).1 e in inr (a, m.2, m.1)
-    go Invalid e = absurd (v e)
+    go : (x : Option Symbol) → symbol_of b i o ≡ x → ((a : ℕ) × (event b ≡ input a) × (a < i)) ⊎ ((a : ℕ) × (event b ≡ output a) × (a < o))
+    go (Some (Input a)) e = let m = (given_means b i o a).0 e in inl (a, m.2, m.1)
+    go (Some (Output a)) e = let m = (given_means b i o a).1 e in inr (a, m.2, m.1)
+    go None e = absurd (v e)

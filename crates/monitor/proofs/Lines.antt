@@ -9,7 +9,8 @@ use lib.ListN.{length, get_or, set, take, length-set, length-append, length-take
 use lib.Seq.{get_or-append_seam, get_or-drop, get_or-set_same, get_or-set_other, get_or-take, ext_get_or}
 use Rattle.model.specs.Model.{newest}
 use Rattle.model.proofs.Flags.{lt_or_ge}
-use Rattle.monitor.specs.Feed.{Shows, Forgot}
+use Rattle.std.specs.List.{CopiedTo, SameFrom}
+use Rattle.monitor.specs.Feed.{Shows}
 
 -- the list with a after it
 module _ (l : List ℕ) (a : ℕ) where
@@ -38,18 +39,18 @@ module _ (n most a : ℕ) (before after : List ℕ) (l : List ℕ) (len : length
       })
 
   -- there is none, and the oldest is forgotten
-  pub held_full : (mid : List ℕ) → n ≡ most → 0 < most → most ≤ 32 → Forgot (most - 1) before mid → after ≡ set mid (most - 1) a → Shows (newest most (l ++ (a ∷ []))) after
-  held_full mid e pos j f g =
+  pub held_full : (mid : List ℕ) → n ≡ most → 0 < most → most ≤ 32 → length mid ≡ length before → CopiedTo before mid 1 0 (most - 1) → SameFrom before mid (0 + (most - 1))
+      → after ≡ set mid (most - 1) a → Shows (newest most (l ++ (a ∷ []))) after
+  held_full mid e pos j len' moved rest g =
       let z : length (l ++ (a ∷ [])) - most ≡ 1 = simp length-append (omega arith) in
       let s = shows.size in
-      let s₁ = f.size in
       rw (z, g) (record {
-        size = length-set mid (most - 1) a ∙ (f.size ∙ s);
+        size = length-set mid (most - 1) a ∙ (len' ∙ s);
         places = λ k m. let d₁ = get_or-drop 1 (l ++ (a ∷ [])) k 0 in elim (ℕ_discrete k (most - 1)) [
           | yes d ↦ rw d (get_or-set_same mid (most - 1) a 0 (omega arith)) ∙ sym (d₁ ∙ last_at l a (1 + k) (omega arith))
           | no d ↦ let q : k ≢ most - 1 = d in get_or-set_other mid (most - 1) k a 0 d ∙ ⊎_elim
-              (λ h. let c : k + 1 ≡ 1 + k = omega arith in f.moved k h ∙ rw c (shows.places (1 + k) (omega arith)) ∙ sym (d₁ ∙ last_below l a (1 + k) (omega arith)))
-              (λ h. f.rest k h ∙ shows.places k m ∙ get_or-eq_default l 0 (omega arith) ∙ sym (d₁ ∙ last_past l a (1 + k) (omega arith))) (lt_or_ge k (most - 1))
+              (λ h. let c : k - 0 ≡ k = omega arith in rw c at (moved k 0 (omega arith) (omega arith)) ∙ shows.places (1 + k) (omega arith) ∙ sym (d₁ ∙ last_below l a (1 + k) (omega arith)))
+              (λ h. rest k 0 (omega arith) ∙ shows.places k m ∙ get_or-eq_default l 0 (omega arith) ∙ sym (d₁ ∙ last_past l a (1 + k) (omega arith))) (lt_or_ge k (most - 1))
         ];
       })
 

@@ -1,8 +1,8 @@
 -- The event, and then takes and losses, on words: what they stand for is the fed set. Assumes nothing.
+use Rattle.std.specs.Prelude.{Some}
 use mathlib.Core.Path.{◌≡◌, refl, ap, ◌∙◌}
 use mathlib.Core.List.{List}
 use mathlib.Core.Logic.{◌↔◌, inl, inr, ⊎_elim}
-use mathlib.Core.Option.{some}
 use Prim.Native.Nat.{ℕ, zero, suc, ◌+◌, ◌-◌, ◌*◌, ◌≤◌, ◌<◌}
 use native.Mathlib.Omega.{arith}
 use lib.ListN.{length, get_or}
@@ -116,13 +116,13 @@ module _ (T : Table) (B c : ℕ) (a top n : ℕ) (symbol : a < T.inputs) (bounds
 module _ (T : Table) (rows : List ℕ) (B c : ℕ) (a top : ℕ) (table : Valid T) (packed : Packed T rows) (bounds : Bounded B c) (symbol : a < T.outputs) (most : top ≤ B)
     (before after : List ℕ) (contained : Contained T c top before) (sent : SentOn rows (width T) (T.inputs + a) top before after) where
   -- what is there followed the entry
-  from_entry : (w r t : ℕ) → w ≤ 32 → r < 8 → InCell after w r t → (s : ℕ) × InCell before w r s × (s < T.states) × (entry T s (T.inputs + a) ≡ some t) × (w ≤ top)
+  from_entry : (w r t : ℕ) → w ≤ 32 → r < 8 → InCell after w r t → (s : ℕ) × InCell before w r s × (s < T.states) × (entry T s (T.inputs + a) ≡ Some t) × (w ≤ top)
   from_entry w r t k l i = ⊎_elim high low (lt_or_ge top w)
     where
-      high : top < w → (s : ℕ) × InCell before w r s × (s < T.states) × (entry T s (T.inputs + a) ≡ some t) × (w ≤ top)
+      high : top < w → (s : ℕ) × InCell before w r s × (s < T.states) × (entry T s (T.inputs + a) ≡ Some t) × (w ≤ top)
       high j = absurd (omega (arith, contained.waiting w r t k l ((same_word t (sent.above (8 * w + r) (omega arith))).0 i)))
 
-      low : w ≤ top → (s : ℕ) × InCell before w r s × (s < T.states) × (entry T s (T.inputs + a) ≡ some t) × (w ≤ top)
+      low : w ≤ top → (s : ℕ) × InCell before w r s × (s < T.states) × (entry T s (T.inputs + a) ≡ Some t) × (w ≤ top)
       low j =
           let (s, f) = (sent.sent w r t j l).0 i in
           let g = contained.state w r s k l f.member in

@@ -1,4 +1,5 @@
 -- Which number a feed tells, and when: the law of specs/Numbers.antt. Assumes nothing.
+use Rattle.std.specs.Prelude.{None, Err}
 use mathlib.Core.Path.{◌≡◌}
 use mathlib.Core.List.Memᴰ.{head as at_head}
 use mathlib.Core.List.Memᴰ.{tail as in_tail}
@@ -9,9 +10,7 @@ use Rattle.model.specs.Model.{event}
 use Rattle.table.specs.Bytes.{symbol_of}
 use Rattle.table.specs.Numbers.{Tells, IsValid}
 use Rattle.table.specs.declared.answer.Refusal.{Refusal}
-use Rattle.table.specs.declared.answer.Symbol.TheVariants.{Invalid}
-use Rattle.table.specs.declared.answer.Test.{Test}
-use Rattle.table.specs.declared.answer.Test.TheVariants.{Refused}
+use Rattle.table.specs.Test.{Test}
 use Rattle.table.proofs.Laws.{passed_tells_none, invalid_byte}
 use Rattle.table.proofs.Numbers.{Never, Gives, alone, told_alone, passed_never, event_gives, events_give, unsound_gives}
 use Rattle.session.specs.declared.Session.{Session}
@@ -24,12 +23,12 @@ neither : {t : Test} {n p q : ℕ} {P : Type 0} → Never n t → (P → ⊥) �
 neither {t} {n} {p} {q} f g = (λ x. absurd (f p q x), λ h. absurd (g h))
 
 -- a refusal tells no number but its own
-no_other : {r : Refusal} {k x : ℕ} (n : ℕ) → Gives r k x → (n ≡ k → ⊥) → Never n (Refused r)
+no_other : {r : Refusal} {k x : ℕ} (n : ℕ) → Gives r k x → (n ≡ k → ⊥) → Never n (Err r)
 no_other n g d p q t = d (alone g t).0
 
 -- in a sound session a byte is invalid exactly when its event is not valid
 not_valid : (s : Session) (b : ℕ) → Sound s
-    → symbol_of b s.inputs s.outputs ≡ Invalid ↔ (IsValid s.inputs s.outputs (event b) → ⊥)
+    → symbol_of b s.inputs s.outputs ≡ None ↔ (IsValid s.inputs s.outputs (event b) → ⊥)
 not_valid s b so = invalid_byte b s.inputs s.outputs so.table.valid.inputs.1 so.table.valid.outputs.1
 
 pub feeding_tells : FeedingTells

@@ -1,4 +1,5 @@
 -- Fed sessions: one answer, sound again, and the plausible set after any trace. Assumes nothing.
+use Rattle.std.specs.Prelude.{Option, Ok, Err}
 use mathlib.Core.Path.{◌≡◌, refl, sym, ◌∙◌, ap, subst}
 use mathlib.Core.List.{List, [], ◌∷◌, ◌++◌, append-nil}
 use mathlib.Core.Logic.{◌↔◌, ◌⊎◌, inl, inr}
@@ -17,13 +18,12 @@ use Rattle.model.proofs.Newest.{inputs_append}
 use Rattle.model.proofs.Contained.{fed_contained}
 use Rattle.model.proofs.Demands.{opens, feeds, allowing_more, never_convicts}
 use Rattle.table.specs.Bytes.{table_of}
-use Rattle.table.specs.declared.answer.Test.TheVariants.{Passed, Refused}
 use Rattle.table.specs.declared.answer.Refusal.{Refusal}
+use Rattle.table.specs.Test.{Test}
 use Rattle.states.specs.In.{In, Has}
 use Rattle.states.proofs.Same.{words_ext}
 use Rattle.session.specs.declared.Session.{Session}
-use Rattle.session.specs.declared.Flag.{Flag}
-use Rattle.monitor.specs.declared.feed.Fed as declared
+use Rattle.monitor.specs.Fed as declared
 use Rattle.session.specs.Sets.{Holds}
 use Rattle.session.specs.Session.{table_in, kept, line, FlagFits, Sound, Proper, place_of}
 use Rattle.session.specs.Open.{opening, begun}
@@ -54,7 +54,7 @@ one_set a b la lb h = words_ext a b (la ∙ sym lb) (λ k i q. same k (omega ari
       (λ m. out a k q ((h (cfg q (k / 8) (k % 8))).1 (at b k q i m))),
     )
 
-one_flag_after : (e : ℕ) (set : List ℕ) (f g g' : Flag) → FlagAfter e set f g → FlagAfter e set f g' → g ≡ g'
+one_flag_after : (e : ℕ) (set : List ℕ) (f g g' : Option ℕ) → FlagAfter e set f g → FlagAfter e set f g' → g ≡ g'
 one_flag_after e set f g g' stays stays = refl
 one_flag_after e set f g g' (clear x i) (clear y j) = refl
 one_flag_after e set f g g' (clear x i) (falls n) = absurd (n x i)
@@ -108,7 +108,7 @@ pub record Went (s : Session) (b : ℕ) (t : Session) : Type 0 where
   pub to : FedTo s b t
 
 -- no refusal passes
-not_passed : (r : Refusal) → Refused r ≡ Passed → ⊥
+not_passed : (r : Refusal) → ◌≡◌ {A = Test} (Err r) (Ok tt) → ⊥
 not_passed r e = clash (cc)
 
 went : (s : Session) (b : ℕ) (r : declared.Fed) (t : Session) → r ≡ passed t → Feeds s b r → Went s b t
@@ -173,7 +173,7 @@ module _ (s t : Session) (b : ℕ) (proper : Proper s) (w : Went s b t) where
   unfolding f h'
   held_at k i = f.held.places k i
 
-  flag_fits : (f g : Flag) → FlagAfter s.events t.set f g → FlagFits s.events s.set f → FlagFits t.events t.set g
+  flag_fits : (f g : Option ℕ) → FlagAfter s.events t.set f g → FlagFits s.events s.set f → FlagFits t.events t.set g
   flag_fits f g stays (l, n) = (omega (arith, w.to.events), λ x i. let m = (w.to.set x).0 i in n m.0 m.4)
   flag_fits f g (clear x i) k = (x, i)
   flag_fits f g (falls n) k = (omega (arith, w.to.events), n)
@@ -207,7 +207,7 @@ fed_sound s t b p k = let w = went s b (passed t) t refl k in (went_sound s t b 
 -- THE PLAUSIBLE SET
 
 -- before any event
-first_follows : (rows : List ℕ) (s i o B c : ℕ) → opening rows s i o B c ≡ Passed → Follows (table_of rows s i o) B c [] (begun rows s i o B c)
+first_follows : (rows : List ℕ) (s i o B c : ℕ) → opening rows s i o B c ≡ Ok tt → Follows (table_of rows s i o) B c [] (begun rows s i o B c)
 first_follows rows s i o B c e =
     let open' = opens (box (table_of rows s i o)) B c in
     let (sound, holds) = opened_sound rows s i o B c e in
@@ -263,7 +263,7 @@ module _ (T : Table) (B c : ℕ) (bytes : List ℕ) (s t : Session) (b : ℕ) (f
       })
 
   -- the flag, by what it was and what it is
-  flag_is : (f g : Flag) → FlagIs (box T) B c (events bytes) (place_of f) → FlagAfter s.events t.set f g → FlagIs (box T) B c (events (bytes ++ (b ∷ []))) (place_of g)
+  flag_is : (f g : Option ℕ) → FlagIs (box T) B c (events bytes) (place_of f) → FlagAfter s.events t.set f g → FlagIs (box T) B c (events (bytes ++ (b ∷ []))) (place_of g)
   flag_is f g h stays = rw trace (flag_stays (box T) B c (events bytes) (event b) _ h)
   flag_is f g h (clear x i) = rw trace (flag_none (box T) B c (events bytes) (event b) h (x, rw trace at ((carried.plausible x).0 i)))
   flag_is f g h (falls n) =

@@ -5,14 +5,12 @@ use mathlib.Core.Logic.{◌↔◌, inl, inr, ⊎_elim}
 use Prim.Native.Nat.{ℕ, suc, ◌+◌, ◌-◌, ◌*◌, ◌≤◌, ◌<◌}
 use native.Mathlib.Omega.{arith}
 use native.Mathlib.Numerals.{add-one}
-use lib.ListN.{length, get_or, take, length-take}
-use lib.Seq.{get_or-take}
-use Rattle.model.specs.Levels.{oldest}
+use lib.ListN.{length, get_or}
 use Rattle.model.proofs.Flags.{lt_or_ge}
 use Rattle.states.specs.In.{In, Has, Any}
 use Rattle.states.specs.Rows.{Image, Sent}
 use Rattle.session.specs.Sets.{InCell}
-use Rattle.monitor.specs.Sweep.{Level, Stored, LoweredTo, Took, Lowered, Followed, SentLevel, SentOn, SweptFrom}
+use Rattle.monitor.specs.Sweep.{Level, Stored, LoweredTo, Took, Lowered, Followed, SentOn, SweptFrom}
 use Rattle.monitor.proofs.Bridge.{same_word, swept_lower}
 
 -- a level's words are those of the set
@@ -63,20 +61,27 @@ module _ (rows : List ℕ) (width c a w : ℕ) (before after above row x : List 
       }
 
 -- the next level, with the input that stands at the head of the line
-pub swept_more : (rows : List ℕ) (width c : ℕ) (held : List ℕ) (top w : ℕ) (before mid after : List ℕ) (a : ℕ) → top ≤ length held → 0 < w → w ≤ top
-    → a ≡ get_or held (top - (w - 1) - 1) 0 → SweptFrom rows width c (take top held) w top before mid → Lowered rows width c a (w - 1) mid after
-    → SweptFrom rows width c (take top held) (w - 1) top before after
-swept_more rows width c held top w before mid after a fits pos le is swept low =
+-- a level that was stored
+pub stored_level : (w : ℕ) (x before after : List ℕ) → Stored w x before after → Level after w x
+stored_level w x before after s = record { words = λ r k. sym (s.words r k) }
+
+pub swept_more : (rows : List ℕ) (width c : ℕ) (h : List ℕ) (w : ℕ) (before mid after : List ℕ) → 0 < w → w ≤ length h → SweptFrom rows width c h w (length h) before mid
+    → Lowered rows width c (get_or h (length h - (w - 1) - 1) 0) (w - 1) mid after → SweptFrom rows width c h (w - 1) (length h) before after
+swept_more rows width c h w before mid after pos le swept low =
     let e : suc (w - 1) ≡ w = omega arith in
-    let len : length (take top held) ≡ top = simp length-take (omega arith) in
-    let i : length (take top held) - suc (w - 1) ≡ top - (w - 1) - 1 = omega arith in
-    let b : top - (w - 1) - 1 < top = omega arith in
-    let old : oldest (suc (w - 1)) (take top held) ≡ a = rw (i, get_or-take) (sym is) in
-    swept_lower rows width c (take top held) top before (w - 1) (omega arith) mid after (rw e swept) (rw old low)
+    let i : length h - (w - 1) - 1 ≡ length h - suc (w - 1) = omega arith in
+    swept_lower rows width c h (length h) before (w - 1) (omega arith) mid after (rw e swept) (rw i at low)
 
 -- AN OUTPUT
 
-pub sent_level : (rows : List ℕ) (width column w : ℕ) (before after row x : List ℕ) → Level before w row → Sent rows width column row x → Stored w x before after
+-- in the level of w waiting every state has followed the column
+pub record SentLevel (rows : List ℕ) (width column w : ℕ) (before after : List ℕ) : Type 0 where
+  pub size : length after ≡ length before
+  pub sent : (r t : ℕ) → r < 8 → InCell after w r t ↔ ((s : ℕ) × Followed rows width column s t before w r)
+  pub below : (k : ℕ) → k < 8 * w → get_or after k 0 ≡ get_or before k 0
+  pub above : (k : ℕ) → 8 * w + 8 ≤ k → get_or after k 0 ≡ get_or before k 0
+
+sent_level : (rows : List ℕ) (width column w : ℕ) (before after row x : List ℕ) → Level before w row → Sent rows width column row x → Stored w x before after
     → SentLevel rows width column w before after
 sent_level rows width column w before after row x own sent st =
     record {
@@ -99,14 +104,18 @@ module _ (rows : List ℕ) (width column : ℕ) (before : List ℕ) where
   pub sending_none : Sending rows width column 0 before before
   sending_none = record { size = refl; sent = λ v r t i. absurd (omega arith); rest = λ k i. refl }
 
-  pub sending_more : (w : ℕ) (mid after : List ℕ) → Sending rows width column w before mid → SentLevel rows width column w mid after → Sending rows width column (w + 1) before after
-  sending_more w mid after s l =
+  pub sending_more : (w : ℕ) (mid after row x : List ℕ) → Sending rows width column w before mid → Level mid w row → Sent rows width column row x → Stored w x mid after
+      → Sending rows width column (w + 1) before after
+  sending_more w mid after row x s own to st =
       record {
         size = l.size ∙ s.size;
         sent = λ v r t i j. ⊎_elim (λ k. old v r t k j) (λ k. let e : v ≡ w = omega arith in rw e (new r t j)) (lt_or_ge v w);
         rest = λ k i. l.above k (omega arith) ∙ s.rest k (omega arith);
       }
     where
+      l : SentLevel rows width column w mid after
+      l = sent_level rows width column w mid after row x own to st
+
       old : (v r t : ℕ) → v < w → r < 8 → InCell after v r t ↔ ((q : ℕ) × Followed rows width column q t before v r)
       old v r t i j = let m = same_word t (l.below (8 * v + r) (omega arith)) in ((λ k. (s.sent v r t i j).0 (m.0 k)), (λ k. m.1 ((s.sent v r t i j).1 k)))
 
@@ -116,5 +125,5 @@ module _ (rows : List ℕ) (width column : ℕ) (before : List ℕ) where
         (λ (q, f). (l.sent r t j).1 (q, record { member = (same_word q (s.rest (8 * w + r) (omega arith))).1 f.member; leads = f.leads })),
       )
 
-  pub sending_all : (n : ℕ) (after : List ℕ) → Sending rows width column (n + 1) before after → SentOn rows width column n before after
-  sending_all n after s = record { sent = λ w r t i j. s.sent w r t (omega arith) j; above = λ k i. s.rest k (omega arith) }
+  pub sending_all : (n w : ℕ) (after : List ℕ) → w ≡ n → Sending rows width column (w + 1) before after → SentOn rows width column n before after
+  sending_all n w after e s = record { sent = λ w r t i j. s.sent w r t (omega arith) j; above = λ k i. s.rest k (omega arith) }

@@ -1,5 +1,5 @@
 -- Document 01: feeding a session one event, for every session and every byte. Assumes nothing.
-use Rattle.std.specs.Prelude.{◌≡◌, List, [], ◌∷◌, ◌++◌, ◌↔◌, ℕ, ◌+◌, ◌≤◌, ◌<◌, length, get_or}
+use Rattle.std.specs.Prelude.{◌≡◌, List, [], ◌∷◌, ◌++◌, ◌↔◌, ℕ, ◌+◌, ◌≤◌, ◌<◌, length, get_or, Option, Some, None, Ok, Err}
 use Rattle.model.specs.Limits.{most_events}
 use Rattle.model.specs.Model.{box, event, inputs_of, newest, Config}
 use Rattle.model.specs.Model as model
@@ -7,14 +7,10 @@ use Rattle.model.specs.Levels.{held_after}
 use Rattle.table.specs.Bytes.{symbol_of}
 use Rattle.table.specs.declared.answer.Refusal.{Refusal}
 use Rattle.table.specs.declared.answer.Refusal.TheVariants as refusal
-use Rattle.table.specs.declared.answer.Symbol.TheVariants.{Invalid}
-use Rattle.table.specs.declared.answer.Test.TheVariants.{Passed, Refused}
 use Rattle.session.specs.declared.Session.{Session}
-use Rattle.session.specs.declared.Flag.{Flag}
-use Rattle.session.specs.declared.Flag.TheVariants as flag
 use Rattle.session.specs.Sets.{Holds}
 use Rattle.session.specs.Session.{table_in, line, Sound}
-use Rattle.monitor.specs.declared.feed.Fed.{Fed}
+use Rattle.monitor.specs.Fed.{Fed}
 
 -- THE HELD INPUTS
 
@@ -22,12 +18,6 @@ use Rattle.monitor.specs.declared.feed.Fed.{Fed}
 pub record Shows (l bytes : List ℕ) : Type 0 where
   pub size : length bytes ≡ 32
   pub places : (k : ℕ) → k < 32 → get_or bytes k 0 ≡ get_or l k 0
-
--- The bytes before the last have gone down by one place.
-pub record Forgot (last : ℕ) (before after : List ℕ) : Type 0 where
-  pub size : length after ≡ length before
-  pub moved : (k : ℕ) → k < last → get_or after k 0 ≡ get_or before (k + 1) 0
-  pub rest : (k : ℕ) → last ≤ k → get_or after k 0 ≡ get_or before k 0
 
 -- Where n inputs were held, the newest of them and a are, so many at most.
 pub record Held (n most a : ℕ) (before after : List ℕ) : Type 0 where
@@ -37,10 +27,10 @@ pub record Held (n most a : ℕ) (before after : List ℕ) : Type 0 where
 -- THE SESSION
 
 -- A flag stays. Where there was none and the set is empty, it falls at this event.
-pub data FlagAfter (events : ℕ) (set : List ℕ) : Flag → Flag → Type 0 where
-  stays : {place : ℕ} → FlagAfter events set (flag.At place) (flag.At place)
-  clear : (x : Config ℕ) → Holds set x → FlagAfter events set flag.None flag.None
-  falls : ((x : Config ℕ) → Holds set x → ⊥) → FlagAfter events set flag.None (flag.At events)
+pub data FlagAfter (events : ℕ) (set : List ℕ) : Option ℕ → Option ℕ → Type 0 where
+  stays : {place : ℕ} → FlagAfter events set (Some place) (Some place)
+  clear : (x : Config ℕ) → Holds set x → FlagAfter events set None None
+  falls : ((x : Config ℕ) → Holds set x → ⊥) → FlagAfter events set None (Some events)
 
 -- r is the session s one event later, with this set, these held inputs and this count of inputs.
 pub record MovedOn (s : Session) (set held : List ℕ) (arrived : ℕ) (r : Session) : Type 0 where
@@ -76,18 +66,18 @@ pub record FedTo (s : Session) (b : ℕ) (t : Session) : Type 0 where
 
 -- A refused feed hands back the session it got.
 abbrev pub refused : Refusal → Session → Fed
-refused r s = record { test = Refused r; session = s }
+refused r s = record { test = Err r; session = s }
 
 abbrev pub passed : Session → Fed
-passed s = record { test = Passed; session = s }
+passed s = record { test = Ok tt; session = s }
 
 -- The byte is an event of the session's table.
 abbrev pub ValidEvent : Session → ℕ → Type 0
-ValidEvent s b = symbol_of b s.inputs s.outputs ≡ Invalid → ⊥
+ValidEvent s b = symbol_of b s.inputs s.outputs ≡ None → ⊥
 
 -- Feeding: 8, 9, 7. Number 9 counts this event too, so a full session gives 1,048,577.
 pub data Feeds (s : Session) (b : ℕ) : Fed → Type 0 where
   unsound : (Sound s → ⊥) → Feeds s b (refused refusal.Unsound s)
   full : Sound s → most_events ≤ s.events → Feeds s b (refused (refusal.Events (s.events + 1)) s)
-  invalid : Sound s → s.events < most_events → symbol_of b s.inputs s.outputs ≡ Invalid → Feeds s b (refused (refusal.Event s.events) s)
+  invalid : Sound s → s.events < most_events → symbol_of b s.inputs s.outputs ≡ None → Feeds s b (refused (refusal.Event s.events) s)
   fed : {t : Session} → Sound s → s.events < most_events → ValidEvent s b → FedTo s b t → Feeds s b (passed t)

@@ -1,13 +1,12 @@
 -- What is shown of feeding, each under one sentence. proofs/Laws.antt proves them all. Assumes nothing.
-use Rattle.std.specs.Prelude.{◌≡◌, List, [], ◌∷◌, ℕ, ◌<◌, length}
+use Rattle.std.specs.Prelude.{◌≡◌, List, [], ◌∷◌, ℕ, ◌<◌, length, Ok}
 use Rattle.model.specs.Limits.{most_events}
 use Rattle.model.specs.Table.{Table}
 use Rattle.model.specs.Model.{box, events, inputs_of, Config, cfg, FlagIs}
 use Rattle.model.specs.Demands.{Carries, Slack, Later}
 use Rattle.table.specs.Bytes.{table_of}
-use Rattle.table.specs.declared.answer.Test.TheVariants.{Passed}
 use Rattle.session.specs.declared.Session.{Session}
-use Rattle.monitor.specs.declared.feed.Fed.{Fed}
+use Rattle.monitor.specs.Fed.{Fed}
 use Rattle.session.specs.Sets.{Holds}
 use Rattle.session.specs.Session.{table_in, line, Sound, Proper, place_of}
 use Rattle.session.specs.Open.{opening, begun}
@@ -50,7 +49,7 @@ pub data FedAll : Session → List ℕ → Session → Type 0 where
 -- From an opened session that is the plausible set.
 abbrev pub PlausibleAfterFeeding : Type 0
 PlausibleAfterFeeding =
-    (rows : List ℕ) (s i o B c : ℕ) (bytes : List ℕ) (t : Session) → opening rows s i o B c ≡ Passed → FedAll (begun rows s i o B c) bytes t
+    (rows : List ℕ) (s i o B c : ℕ) (bytes : List ℕ) (t : Session) → opening rows s i o B c ≡ Ok tt → FedAll (begun rows s i o B c) bytes t
     → Follows (table_of rows s i o) B c bytes t
 
 -- DEMAND 3 FOR SESSIONS

@@ -1,3 +1,4 @@
+pub mod Fed
 pub mod Sweep
 pub mod Feed
 pub mod Event

@@ -56,29 +56,16 @@ pub record SweptFrom (rows : List ℕ) (width c : ℕ) (h : List ℕ) (w top : �
 
 -- THE EVENT
 
--- The words from k to below 8 n have gone up by one level, and those below the level they went to are as they were.
-pub record Raised (k n : ℕ) (before after : List ℕ) : Type 0 where
-  pub size : length after ≡ length before
-  pub moved : (i : ℕ) → k ≤ i → i < 8 * n → get_or after (8 + i) 0 ≡ get_or before i 0
-  pub below : (i : ℕ) → i < 8 + k → get_or after i 0 ≡ get_or before i 0
-  pub above : (i : ℕ) → 8 * n + 8 ≤ i → get_or after i 0 ≡ get_or before i 0
-
 -- An input comes: the levels below n go up by one, and nothing is left at waiting 0.
 pub record Shifted (n : ℕ) (before after : List ℕ) : Type 0 where
   pub first : (k : ℕ) → k < 8 → get_or after k 0 ≡ 0
   pub moved : (k : ℕ) → k < 8 * n → get_or after (8 + k) 0 ≡ get_or before k 0
   pub above : (k : ℕ) → 8 * n + 8 ≤ k → get_or after k 0 ≡ get_or before k 0
 
--- An output is seen: state s of the level of w waiting follows the column to t; in one level; and in all up to n.
+-- An output is seen: state s of the level of w waiting follows the column to t; and in all levels up to n.
 pub record Followed (rows : List ℕ) (width column s t : ℕ) (before : List ℕ) (w r : ℕ) : Type 0 where
   pub member : InCell before w r s
   pub leads : Leads rows width column s t
-
-pub record SentLevel (rows : List ℕ) (width column w : ℕ) (before after : List ℕ) : Type 0 where
-  pub size : length after ≡ length before
-  pub sent : (r t : ℕ) → r < 8 → InCell after w r t ↔ ((s : ℕ) × Followed rows width column s t before w r)
-  pub below : (k : ℕ) → k < 8 * w → get_or after k 0 ≡ get_or before k 0
-  pub above : (k : ℕ) → 8 * w + 8 ≤ k → get_or after k 0 ≡ get_or before k 0
 
 pub record SentOn (rows : List ℕ) (width column n : ℕ) (before after : List ℕ) : Type 0 where
   pub sent : (w r t : ℕ) → w ≤ n → r < 8 → InCell after w r t ↔ ((s : ℕ) × Followed rows width column s t before w r)

@@ -1,52 +1,23 @@
 // Feeding a session one event.
-ghost use Rattle.std.specs.Prelude.{◌≡◌, ℕ, ◌+◌, ◌<◌, min, List};
+ghost use Rattle.std.specs.Prelude.{◌+◌, ◌<◌};
 ghost use Rattle.session.specs.Session.{Sound};
-ghost use Rattle.session.specs.Sets.{Finds};
-ghost use Rattle.monitor.specs.Feed.{FlagAfter, MovedOn, FedTo, Feeds};
+ghost use Rattle.monitor.specs.Feed.{MovedOn, FedTo, Feeds};
 ghost use Rattle.model.specs.Limits.{most_events};
 
-use crate::event;
-use session::{Flag, MOST_EVENTS, Session, sound};
-use table::{Refusal, Symbol, Test};
-
-// How a feed ends, and the session: as it was, where it was refused.
-#[derive(Clone, Copy)]
-pub struct Fed {
-    pub test: Test,
-    pub session: Session,
-}
-
-// A flag stays; where there was none and nothing was found, it falls at this event.
-pub(crate) fn flagged(flag: Flag, found: bool, event: usize) -> Flag
-    ensures { (set : List ℕ) → Finds set found → FlagAfter event set flag result }
-{
-    match flag {
-        Flag::At(place) => Flag::At(place),
-        Flag::None => { if found { Flag::None } else { Flag::At(event) } }
-    }
-}
+use crate::sweep::Moves;
+use session::{MOST_EVENTS, Session};
+use table::{Refusal, Symbol};
 
 // The session one event later: its set and its held inputs have moved on already; its flag, its count of events and that of inputs follow.
+// A flag stays; where there was none and the set is empty, it falls at this event.
 fn moved_on(s: &mut Session, arrived: usize)
     requires { s.old.events < most_events }
     ensures { MovedOn s.old s.old.set s.old.held arrived s.new }
 {
-    let found = !states::empty(&s.set);
-    let before = s.flag;
-    s.flag = flagged(before, found, s.events);
+    let empty = states::empty(&s.set);
+    s.flag = s.flag.or(empty.then_some(s.events));
     s.events += 1;
     s.arrived = arrived;
-}
-
-// How many inputs are held: B of them, or all seen if fewer.
-fn held_count(waiting: u8, arrived: usize) -> usize
-    ensures { result ≡ min waiting arrived }
-{
-    if (waiting as usize) <= arrived {
-        waiting as usize
-    } else {
-        arrived
-    }
 }
 
 // Input a comes, and then any number of takes and losses.
@@ -54,13 +25,15 @@ fn arrive(s: &mut Session, a: u8)
     requires { Sound s.old × (s.old.events < most_events) × (a < s.old.inputs) }
     ensures { FedTo s.old a s.new }
 {
-    let most = s.waiting as usize;
-    let n = held_count(s.waiting, s.arrived);
-    let width = s.inputs + s.outputs;
-    let losses = s.losses as usize;
-    event::arrived(&mut s.set, &mut s.held, &s.rows, width, most, losses, n, a);
-    let seen = s.arrived + 1;
-    moved_on(&mut *s, seen);
+    let most = usize::from(s.waiting);
+    let n = s.held_count();
+    let moves = Moves {
+        rows: &s.rows,
+        width: s.inputs + s.outputs,
+        losses: s.losses,
+    };
+    moves.arrived(&mut s.set, &mut s.held, most, n, a);
+    moved_on(s, s.arrived + 1);
 }
 
 // Output a is seen, and then any number of takes and losses.
@@ -68,41 +41,35 @@ fn send(s: &mut Session, a: u8)
     requires { Sound s.old × (s.old.events < most_events) × (a < s.old.outputs) }
     ensures { FedTo s.old (128 + a) s.new }
 {
-    let n = held_count(s.waiting, s.arrived);
-    let width = s.inputs + s.outputs;
-    let column = s.inputs + a;
-    let losses = s.losses as usize;
-    event::sent(&mut s.set, &s.held, &s.rows, width, column, losses, n);
-    let seen = s.arrived;
-    moved_on(&mut *s, seen);
+    let n = s.held_count();
+    let moves = Moves {
+        rows: &s.rows,
+        width: s.inputs + s.outputs,
+        losses: s.losses,
+    };
+    moves.sent(&mut s.set, &s.held, s.inputs + a, n);
+    moved_on(s, s.arrived);
 }
 
-// The event byte comes to the session where it lies. Where it is refused, the session stays as it was.
-pub fn advance(s: &mut Session, byte: u8) -> Test
+// The event byte comes to the session where it lies. Any session may come and any byte; where it is refused, since the session is not sound or
+// is full, or since it has no such event, the session stays as it was.
+#[tactic(auto, using(crate::proofs::Feeding::endings))]
+pub fn feed(s: &mut Session, byte: u8) -> Result<(), Refusal>
     ensures { Feeds s.old byte (record { test = result; session = s.new }) }
 {
-    if !sound::is_sound(&*s) {
-        return Test::Refused(Refusal::Unsound);
+    if !s.is_sound() {
+        return Err(Refusal::Unsound);
     }
     let events = s.events;
     if MOST_EVENTS <= events {
-        return Test::Refused(Refusal::Events(events + 1));
+        return Err(Refusal::Events(events + 1));
     }
-    let symbol = table::event(byte, s.inputs, s.outputs);
+    let Some(symbol) = table::event(byte, s.inputs, s.outputs) else {
+        return Err(Refusal::Event(events));
+    };
     match symbol {
-        Symbol::Invalid => return Test::Refused(Refusal::Event(events)),
-        Symbol::Input(a) => arrive(&mut *s, a),
-        Symbol::Output(a) => send(&mut *s, a),
+        Symbol::Input(a) => arrive(s, a),
+        Symbol::Output(a) => send(s, a),
     }
-    Test::Passed
-}
-
-// The session after the event byte. Any session may come and any byte; a session that is not sound, is full, or has no such event is
-// handed back.
-pub fn feed(s: Session, byte: u8) -> Fed
-    ensures { Feeds s byte result }
-{
-    let mut session = s;
-    let test = advance(&mut session, byte);
-    Fed { test, session }
+    Ok(())
 }

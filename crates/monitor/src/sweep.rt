@@ -1,44 +1,40 @@
 // The set of configurations, worked on in place: what an event does to it, and then takes and losses from the longest waiting line to
 // the shortest. No second set is built; a level, the eight words of one waiting count, goes by value.
-ghost use Rattle.std.specs.Prelude.{◌≡◌, ◌↔◌, ℕ, ◌+◌, ◌-◌, ◌*◌, ◌≤◌, ◌<◌, length, take};
-ghost use Rattle.monitor.specs.Sweep.{Level, Stored, Lowered, SweptFrom, Raised, Shifted, SentLevel, SentOn, LoweredTo};
-ghost use Rattle.states.specs.In.{In, Has};
+ghost use Rattle.std.specs.Prelude.{◌+◌, ◌≤◌, ◌<◌, length};
+ghost use Rattle.monitor.specs.Sweep.{Level, Stored, Lowered, SweptFrom, Shifted, SentOn, LoweredTo};
+
+// What moves the states of a set: the rows of a table, each `width` bytes, and how many losses in a row there may be, c.
+#[derive(Clone, Copy)]
+pub(crate) struct Moves<'a> {
+    pub(crate) rows: &'a [u8],
+    pub(crate) width: u8,
+    pub(crate) losses: u8,
+}
 
 // The level of w waiting: its eight words, one for each run.
-pub(crate) fn level(set: &[u64; 264], w: usize) -> [u64; 8]
+#[tactic(auto, using(states::proofs::Words::written_none, states::proofs::Words::written_more))]
+fn level(set: &[u64; 264], w: usize) -> [u64; 8]
     requires { w ≤ 32 }
     ensures { Level set.now w result }
 {
-    let mut x = [0u64; 8];
-    let mut r: usize = 0;
-    while r < 8 {
+    // Not by chunks, which a feed is slower by.
+    let mut x = [0; 8];
+    for r in 0..8 {
         x[r] = set[8 * w + r];
-        r += 1;
     }
     x
 }
 
 // The level of w waiting becomes x.
+#[tactic(auto, using(states::proofs::Words::written_none, states::proofs::Words::written_more))]
 fn store(set: &mut [u64; 264], w: usize, x: [u64; 8])
-    requires { (w ≤ 32) × (length set.old ≡ 264) }
+    requires { w ≤ 32 }
     ensures { Stored w x set.old set.new }
 {
-    let mut r: usize = 0;
-    while r < 8 {
-        set[8 * w + r] = x[r];
-        r += 1;
+    // Not by `copy_from_slice`: whether the two overlap is tested there, and a sweep takes a fifth longer.
+    for (r, &word) in x.iter().enumerate() {
+        set[8 * w + r] = word;
     }
-}
-
-// What the level `above` hands to run r of the level below it by a loss.
-fn handed(above: [u64; 8], r: usize, c: usize) -> u64
-    requires { (0 < r) × (r < 8) }
-    ensures { (s : ℕ) → In s result ↔ ((r < c) × Has above (r - 1) s) }
-{
-    if r < c {
-        return above[r - 1];
-    }
-    0
 }
 
 // The level `row` with what is taken and lost from the level `above`.
@@ -46,91 +42,62 @@ fn joined(row: [u64; 8], above: [u64; 8], taken: u64, c: usize) -> [u64; 8]
     ensures { LoweredTo row above taken c result }
 {
     let mut x = row;
-    x[0] = row[0] | taken;
-    let mut r: usize = 1;
-    while r < 8 {
-        x[r] = row[r] | handed(above, r, c);
-        r += 1;
+    x[0] |= taken;
+    // By number: run r of the one goes with run r - 1 of the other, and r itself is held against c.
+    for r in 1..8 {
+        x[r] |= if r < c { above[r - 1] } else { 0 };
     }
     x
 }
 
-// Takes and losses from the level of w + 1 waiting are put into that of w; the input at the head of the line is a.
-pub(crate) fn lower(set: &mut [u64; 264], rows: &[u8], width: u8, w: usize, a: u8, c: usize)
-    requires { (w < 32) × (length set.old ≡ 264) }
-    ensures lowered { Lowered rows.now width c a w set.old set.new }
-    ensures set_len { length set.new ≡ 264 }
-{
-    let above = level(&*set, w + 1);
-    let row = level(&*set, w);
-    let taken = states::image(rows, width, a, states::union_of(above));
-    let x = joined(row, above, taken, c);
-    store(&mut *set, w, x);
-}
-
-// Any number of takes and losses: `held` has the line, oldest first, of which `top` wait at most.
-pub(crate) fn sweep<'a>(
-    set: &mut [u64; 264],
-    rows: &'a [u8],
-    width: u8,
-    held: &'a [u8],
-    top: usize,
-    c: usize,
-)
-    requires { (top ≤ 32) × (length held.now ≡ 32) × (length set.old ≡ 264) }
-    ensures swept_from { SweptFrom rows.now width c (take top held.now) 0 top set.old set.new }
-    ensures set_len { length set.new ≡ 264 }
-    ensures held_len { length held.now ≡ 32 }
-{
-    let mut w = top;
-    while 0 < w {
-        w -= 1;
-        lower(&mut *set, rows, width, w, held[top - w - 1], c);
-    }
-}
-
-// The levels below n go up by one; that of waiting 0 is left as it was.
-fn raise(set: &mut [u64; 264], n: usize)
-    requires { (n ≤ 32) × (length set.old ≡ 264) }
-    ensures { Raised 0 n set.old set.new }
-{
-    let mut k = 8 * n;
-    while 0 < k {
-        k -= 1;
-        let x = set[k];
-        set[k + 8] = x;
-    }
-}
-
 // An input comes: the levels below n go up by one, and nothing is left at waiting 0.
+#[tactic(auto, using(crate::proofs::Words::shifted))]
 pub(crate) fn shift(set: &mut [u64; 264], n: usize)
-    requires { (n ≤ 32) × (length set.old ≡ 264) }
-    ensures shifted { Shifted n set.old set.new }
-    ensures set_len { length set.new ≡ 264 }
+    requires { n ≤ 32 }
+    ensures { Shifted n set.old set.new }
 {
-    raise(&mut *set, n);
-    let none = [0u64; 8];
-    store(&mut *set, 0, none);
+    set.copy_within(..8 * n, 8);
+    store(set, 0, [0; 8]);
 }
 
-// The level of w waiting, where every state follows the column.
-fn send_level(set: &mut [u64; 264], rows: &[u8], width: u8, column: u8, w: usize)
-    requires { (w ≤ 32) × (length set.old ≡ 264) }
-    ensures { SentLevel rows.now width column w set.old set.new }
-{
-    let x = states::sent(level(&*set, w), rows, width, column);
-    store(&mut *set, w, x);
-}
+impl Moves<'_> {
+    // Takes and losses from the level `above`, that of w + 1 waiting, are put into that of w, which is handed on: what was just stored is not
+    // loaded again. The input at the head of the line is a.
+    #[tactic(auto, using(crate::proofs::Steps::lowered, crate::proofs::Steps::stored_level))]
+    fn lower(&self, set: &mut [u64; 264], w: usize, above: [u64; 8], a: u8) -> [u64; 8]
+        requires place { w < 32 }
+        requires from { Level set.old (w + 1) above }
+        ensures lowered { Lowered self.now.rows.now self.now.width self.now.losses a w set.old set.new }
+        ensures level { Level set.new w result }
+    {
+        let taken = states::image(self.rows, self.width, a, states::union_of(above));
+        let x = joined(level(set, w), above, taken, usize::from(self.losses));
+        store(set, w, x);
+        x
+    }
 
-// An output is seen: in the levels up to n every state follows the column.
-pub(crate) fn send(set: &mut [u64; 264], rows: &[u8], width: u8, column: u8, n: usize)
-    requires { (n ≤ 32) × (length set.old ≡ 264) }
-    ensures sent_on { SentOn rows.now width column n set.old set.new }
-    ensures set_len { length set.new ≡ 264 }
-{
-    let mut w: usize = 0;
-    while w <= n {
-        send_level(&mut *set, rows, width, column, w);
-        w += 1;
+    // Any number of takes and losses, where the inputs that may wait are the line's, oldest first.
+    #[tactic(auto, using(crate::proofs::Bridge::swept_none, crate::proofs::Steps::swept_more))]
+    pub(crate) fn sweep(&self, set: &mut [u64; 264], line: &[u8])
+        requires { length line.now ≤ 32 }
+        ensures { SweptFrom self.now.rows.now self.now.width self.now.losses line.now 0 (length line.now) set.old set.new }
+    {
+        let top = line.len();
+        let mut above = level(set, top);
+        for w in (0..top).rev() {
+            let lowered = self.lower(set, w, above, line[top - w - 1]);
+            above = lowered;
+        }
+    }
+
+    // An output is seen: in the levels up to n every state follows the column.
+    pub(crate) fn send(&self, set: &mut [u64; 264], column: u8, n: usize)
+        requires { n ≤ 32 }
+        ensures { SentOn self.now.rows.now self.now.width column n set.old set.new }
+    {
+        for w in 0..=n {
+            let x = states::sent(level(set, w), self.rows, self.width, column);
+            store(set, w, x);
+        }
     }
 }

@@ -10,12 +10,12 @@ use lib.Seq.{get_or-take}
 use Rattle.model.specs.Table.{Bounded}
 use Rattle.block.specs.Limits.{block_size, check_at, room, modulus, setup_kind, row_kind, event_kind, setup_size}
 use Rattle.block.specs.Block.{byte, stored, weighed, check}
-use Rattle.house.specs.File.{block_at, GoodForm, rows_of, events_of, contents_of}
+use Rattle.house.specs.File.{block_at, GoodForm, rows_of, events_of, contents_of, source_byte}
 use Rattle.house.specs.Reading.{given}
 use Rattle.house.specs.declared.answer.Contents.{Contents}
 use Rattle.house.specs.declared.answer.Source.{Source}
 use Rattle.writer.specs.Writing.{blocks_for}
-use Rattle.writer.specs.Layout.{spelling, header, body, block_of, all_of, source_byte, setup_of, file_of}
+use Rattle.writer.specs.Layout.{spelling, header, body, block_of, all_of, setup_of, file_of}
 use Rattle.writer.specs.Laws.{Counted}
 use Rattle.writer.proofs.Blocks.{length_body, check_same}
 use Rattle.writer.proofs.Laws.{long_as_needed}

@@ -1,4 +1,5 @@
 -- Every statement of specs/Laws.antt, proved. Assumes nothing.
+use Rattle.std.specs.Prelude.{Ok, Err}
 use mathlib.Core.Path.{◌≡◌, refl, sym, ap, ◌∙◌}
 use mathlib.Core.List.{List, []}
 use mathlib.Core.Logic.{⊎_elim}
@@ -6,6 +7,7 @@ use Prim.Native.Nat.{ℕ}
 use native.Mathlib.Omega.{arith}
 use lib.ListN.{length, replicate, length-replicate}
 use Rattle.lent.specs.Lent.{front}
+use Rattle.table.proofs.Checks.{clash}
 use Rattle.table.specs.First.{first}
 use Rattle.table.specs.Tests.{counts_test, length_test, entries_test, bounds_test}
 use Rattle.table.specs.declared.answer.Refusal.TheVariants.{Waiting}
@@ -14,19 +16,16 @@ use Rattle.house.specs.File.{rows_of, events_of, contents_of}
 use Rattle.house.specs.Laws.{GoodContents, GoodFile}
 use Rattle.house.specs.Reading.{given, shape_test, rows_test, limits_test, held_test, content_test, form_test, verdict, answer, Answers}
 use Rattle.house.specs.declared.answer.Contents.{Contents}
-use Rattle.house.specs.declared.answer.Reading.TheVariants.{Good}
 use Rattle.house.specs.declared.answer.Refusal.{Refusal}
 use Rattle.house.specs.declared.answer.Refusal.TheVariants.{Content}
 use Rattle.house.specs.declared.answer.Source.TheVariants.{Standard}
-use Rattle.house.specs.declared.answer.Verdict.{Verdict}
-use Rattle.house.specs.declared.answer.Verdict.TheVariants as verdict
+use Rattle.house.specs.Verdict.{Verdict}
 use Rattle.house.proofs.Laws.{form_passes, read_exactly, rows_fit, what_is_held}
 use Rattle.writer.specs.Layout.{file_of}
 use Rattle.writer.specs.Writing.{needed, write_test, IsFile, Writes}
 use Rattle.writer.specs.Writing as writing
 use Rattle.writer.specs.Laws.{WritesWhatWasRead}
-use Rattle.writer.specs.declared.answer.Writing.{Writing}
-use Rattle.writer.specs.declared.answer.Writing.TheVariants.{Written, Refused}
+use Rattle.writer.specs.Answer.{Writing}
 use Rattle.writer.proofs.Laws.{laid_out, write_exactly, one_writing, writes_back}
 use Rattle.remake.specs.Remaking.{row_room, event_room, changed, Remakes, refused, written}
 use Rattle.remake.specs.Laws.{OneRemaking, OneRebinding, OneRetracing, FormWritten, GoodWritten, SameAgain}
@@ -37,16 +36,13 @@ use Rattle.remake.proofs.Mending
 use Rattle.remake.proofs.Telling
 use Rattle.remake.proofs.Trace
 
-clash : {A : Type 0} {r : Refusal} → verdict.Passed ≡ verdict.Refused r → A
-clash e = absurd (let z : ◌≡◌ {A = ℕ} 0 1 = cc in omega arith)
-
-refusals : {a b : Refusal} → verdict.Refused a ≡ verdict.Refused b → a ≡ b
+refusals : {a b : Refusal} → ◌≡◌ {A = Verdict} (Err a) (Err b) → a ≡ b
 refusals e = cc
 
 pub one_remaking : OneRemaking
-one_remaking v s waiting losses trace o w₁ w₂ o₁ o₂ (refused x) (refused y) = (ap Refused (refusals (sym x ∙ y)), refl)
-one_remaking v s waiting losses trace o w₁ w₂ o₁ o₂ (refused x) (written p h) = clash (sym p ∙ x)
-one_remaking v s waiting losses trace o w₁ w₂ o₁ o₂ (written p h) (refused x) = clash (sym p ∙ x)
+one_remaking v s waiting losses trace o w₁ w₂ o₁ o₂ (refused x) (refused y) = (ap Err (refusals (sym x ∙ y)), refl)
+one_remaking v s waiting losses trace o w₁ w₂ o₁ o₂ (refused x) (written p h) = let z = sym p ∙ x in clash (cc)
+one_remaking v s waiting losses trace o w₁ w₂ o₁ o₂ (written p h) (refused x) = let z = sym p ∙ x in clash (cc)
 one_remaking v s waiting losses trace o w₁ w₂ o₁ o₂ (written p h) (written q k) =
     one_writing (changed s waiting losses trace) (rows_of s) trace o w₁ w₂ o₁ o₂ h k
 
@@ -59,16 +55,16 @@ one_retracing s = one_remaking (verdict s row_room event_room) s (contents_of s)
 -- Who answers.
 
 -- a file that passes is not refused
-by_writer : (v : Verdict) (s : List ℕ) (waiting losses : ℕ) (trace o : List ℕ) (w : Writing) (o' : List ℕ) → v ≡ verdict.Passed
+by_writer : (v : Verdict) (s : List ℕ) (waiting losses : ℕ) (trace o : List ℕ) (w : Writing) (o' : List ℕ) → v ≡ Ok tt
     → Remakes v s waiting losses trace o w o' → Writes (changed s waiting losses trace) (rows_of s) trace o w o'
-by_writer v s waiting losses trace o w o' p (refused x) = clash (sym p ∙ x)
+by_writer v s waiting losses trace o w o' p (refused x) = let z = sym p ∙ x in clash (cc)
 by_writer v s waiting losses trace o w o' p (written q h) = h
 
 pub form_written : FormWritten
 form_written s waiting losses o w o' g h = by_writer (form_test s) s waiting losses (events_of s) o w o' ((form_passes s).1 g) h
 
 -- nothing refuses a good file
-passes : (s : List ℕ) → GoodFile s (contents_of s) → verdict s row_room event_room ≡ verdict.Passed
+passes : (s : List ℕ) → GoodFile s (contents_of s) → verdict s row_room event_room ≡ Ok tt
 passes s g =
     (read_exactly s row_room event_room).1 (g, rows_fit (contents_of s) (rows_of s) (events_of s) g.contents, g.contents.few)
 
@@ -78,13 +74,13 @@ good_written s trace o w o' g h =
 
 -- a good file is read into rooms of these lengths
 reads : (s d e : List ℕ) → length d ≡ row_room → length e ≡ event_room → GoodFile s (contents_of s)
-    → Answers s d e (Good (contents_of s)) (front d (rows_of s)) (front e (events_of s))
+    → Answers s d e (Ok (contents_of s)) (front d (rows_of s)) (front e (events_of s))
 reads s d e long wide g = record { reading = answered; rows = refl; events = refl }
   where
-    passed : verdict s (length d) (length e) ≡ verdict.Passed
+    passed : verdict s (length d) (length e) ≡ Ok tt
     passed = rw (long, wide) (passes s g)
 
-    answered : Good (contents_of s) ≡ answer (verdict s (length d) (length e)) (contents_of s)
+    answered : Ok (contents_of s) ≡ answer (verdict s (length d) (length e)) (contents_of s)
     answered = rw passed
 
 same : (c : Contents) (rows rows' trace trace' o o' : List ℕ) (w : Writing) → rows ≡ rows' → trace ≡ trace'
@@ -110,7 +106,7 @@ given_told = Telling.given_told
 pub any_rebound : AnyRebound
 any_rebound s waiting losses o w o' g k l h =
     let c : Contents = changed s waiting losses (events_of s) in
-    let p : write_test c (rows_of s) (events_of s) (length o) ≡ verdict.Passed =
+    let p : write_test c (rows_of s) (events_of s) (length o) ≡ Ok tt =
     (write_exactly c (rows_of s) (events_of s) (length o) (record { row_count = refl; event_count = refl })).1 (k, l) in
     (form_written s waiting losses o w o' g h).answer ∙ ap (λ (v : Verdict). writing.answer v c) p
 
@@ -129,7 +125,7 @@ held : (s : List ℕ) (c : Contents) (rows trace : List ℕ) (a b : ℕ) → IsF
 unfolding verdict
 held s c rows trace a b i = rw ((form_passes s).1 i.form, i.contents, i.rows_held, i.events_held)
 
-five : content_test unbound [] [] row_room event_room ≡ verdict.Refused (Content (Waiting 0))
+five : content_test unbound [] [] row_room event_room ≡ Err (Content (Waiting 0))
 unfolding content_test held_test shape_test rows_test limits_test counts_test length_test entries_test bounds_test first
 five = refl
 
@@ -152,7 +148,7 @@ some_rebound = (
         let c : Contents = changed file 1 1 (events_of file) in
         let k : GoodContents c (rows_of file) (events_of file) = rw (is_file.contents, is_file.rows_held, is_file.events_held) bound_good in
         let n : needed c ≡ block_size = rw (is_file.rows_held, is_file.events_held) refl in
-        any_rebound file 1 1 o w o' is_file.form k (rw n l) h ∙ ap Written n;
+        any_rebound file 1 1 o w o' is_file.form k (rw n l) h ∙ ap Ok n;
   },
 )
 

@@ -1,4 +1,5 @@
 -- A file that was made beside the one it was made from: both are laid out as the writer does it. Assumes nothing.
+use Rattle.std.specs.Prelude.{Ok}
 use mathlib.Core.Path.{◌≡◌, refl}
 use mathlib.Core.List.{List}
 use Prim.Native.Nat.{ℕ, ◌≤◌}
@@ -9,14 +10,12 @@ use Rattle.house.specs.File.{GoodForm, rows_of, events_of, contents_of}
 use Rattle.house.specs.Laws.{GoodContents}
 use Rattle.house.specs.Reading.{form_test, verdict}
 use Rattle.house.specs.declared.answer.Contents.{Contents}
-use Rattle.house.specs.declared.answer.Verdict.{Verdict}
-use Rattle.house.specs.declared.answer.Verdict.TheVariants as verdict
+use Rattle.house.specs.Verdict.{Verdict}
 use Rattle.house.proofs.Laws.{form_passes, rows_fit, read_exactly, counts_held}
 use Rattle.writer.specs.Writing.{write_test, IsFile, Writes}
 use Rattle.writer.specs.Layout.{file_of}
 use Rattle.writer.specs.Laws.{Bytes, Counted}
-use Rattle.writer.specs.declared.answer.Writing.{Writing}
-use Rattle.writer.specs.declared.answer.Writing.TheVariants.{Written}
+use Rattle.writer.specs.Answer.{Writing}
 use Rattle.writer.proofs.Laws.{laid_out, one_file, good_is_file, write_exactly, was_written}
 use Rattle.remake.specs.Remaking.{row_room, event_room, changed, Remakes, refused, written, Rebinds, Retraces}
 
@@ -29,9 +28,9 @@ pub record Made (s : List ℕ) (waiting losses : ℕ) (trace f : List ℕ) : Typ
   pub new_is : f ≡ file_of (changed s waiting losses trace) (rows_of s) trace
 
 -- the writer answered
-answered : (v : Verdict) (s : List ℕ) (waiting losses : ℕ) (trace o : List ℕ) (w : Writing) (n : ℕ) (o' : List ℕ) → w ≡ Written n
+answered : (v : Verdict) (s : List ℕ) (waiting losses : ℕ) (trace o : List ℕ) (w : Writing) (n : ℕ) (o' : List ℕ) → w ≡ Ok n
     → Remakes v s waiting losses trace o w o'
-    → (v ≡ verdict.Passed) × Writes (changed s waiting losses trace) (rows_of s) trace o (Written n) o'
+    → (v ≡ Ok tt) × Writes (changed s waiting losses trace) (rows_of s) trace o (Ok n) o'
 answered v s waiting losses trace o w n o' e (refused x) = clash (cc)
 answered v s waiting losses trace o w n o' e (written p h) = (p, rw e at h)
 
@@ -42,7 +41,7 @@ is_laid f c rows trace n l m i = one_file f (file_of c rows trace) c rows trace 
 -- the rows of what was written are those of the file, so they are few; and if its events are
 made : (s : List ℕ) (waiting losses : ℕ) (trace o : List ℕ) (n : ℕ) (o' : List ℕ) → Bytes s → GoodForm s
     → (GoodContents (changed s waiting losses trace) (rows_of s) trace → length (events_of s) ≤ most_events)
-    → Writes (changed s waiting losses trace) (rows_of s) trace o (Written n) o' → Made s waiting losses trace (take n o')
+    → Writes (changed s waiting losses trace) (rows_of s) trace o (Ok n) o' → Made s waiting losses trace (take n o')
 made s waiting losses trace o n o' b g few h =
     let rows : List ℕ = rows_of s in
     let c : Contents = changed s waiting losses trace in
@@ -59,17 +58,17 @@ made s waiting losses trace o n o' b g few h =
       new_is = is_laid (take n o') c rows trace counted fit k.few h.left.file;
     }
 
-pub rebound_made : (s : List ℕ) (waiting losses : ℕ) (o : List ℕ) (n : ℕ) (o' : List ℕ) → Bytes s → Rebinds s waiting losses o (Written n) o'
+pub rebound_made : (s : List ℕ) (waiting losses : ℕ) (o : List ℕ) (n : ℕ) (o' : List ℕ) → Bytes s → Rebinds s waiting losses o (Ok n) o'
     → Made s waiting losses (events_of s) (take n o')
 rebound_made s waiting losses o n o' b m =
-    let (v, h) = answered (form_test s) s waiting losses (events_of s) o (Written n) n o' refl m in
+    let (v, h) = answered (form_test s) s waiting losses (events_of s) o (Ok n) n o' refl m in
     made s waiting losses (events_of s) o n o' b ((form_passes s).0 v) (λ k. k.few) h
 
-pub retraced_made : (s trace o : List ℕ) (n : ℕ) (o' : List ℕ) → Bytes s → Retraces s trace o (Written n) o'
+pub retraced_made : (s trace o : List ℕ) (n : ℕ) (o' : List ℕ) → Bytes s → Retraces s trace o (Ok n) o'
     → Made s (contents_of s).waiting (contents_of s).losses trace (take n o')
 retraced_made s trace o n o' b m =
     let waiting = (contents_of s).waiting in
     let losses = (contents_of s).losses in
-    let (v, h) = answered (verdict s row_room event_room) s waiting losses trace o (Written n) n o' refl m in
+    let (v, h) = answered (verdict s row_room event_room) s waiting losses trace o (Ok n) n o' refl m in
     let (g, _, _) = (read_exactly s row_room event_room).0 v in
     made s waiting losses trace o n o' b g.form (λ k. g.contents.few) h

@@ -1,15 +1,16 @@
 -- A file with the check of block 0 put right, beside the old one. Assumes nothing.
+use Rattle.std.specs.Prelude.{Ok, Err}
 use mathlib.Core.Path.{◌≡◌, refl, sym, ap, ap₂, ◌∙◌}
 use mathlib.Core.Bool.{true}
 use mathlib.Core.List.{List, ◌∷◌, ◌++◌, append_assoc}
-use Prim.Native.Nat.{ℕ, ◌+◌, ◌/◌, ◌%◌, ◌≤◌, ◌<◌}
+use Prim.Native.Nat.{ℕ, ◌+◌, ◌-◌, ◌/◌, ◌%◌, ◌≤◌, ◌<◌}
 use native.Mathlib.Omega.{arith}
 use lib.Dec.{leb}
 use lib.ListN.{length, take, drop, get_or, length-append, take-append-drop}
-use lib.Seq.{length-take-le, take-append-le, drop-append-le, take_at, drop-cons, get_or-append-add, get_or-take}
+use lib.Seq.{length-take-le, take-append-le, drop-append-le, take_at, drop-cons, get_or-append-add, get_or-take, drop-drop}
 use borrow.Author.Tests.{leb-true, le-leb, eqb-true, eqb-false}
-use Rattle.lent.specs.Lent.{front, put_at}
-use Rattle.lent.proofs.Laws.{put_start, put_at_fits}
+use borrow.Rule.Slice.PartMut.{put_mid}
+use Rattle.lent.specs.Lent.{front}
 use Rattle.table.proofs.Checks.{clash, both}
 use Rattle.flaw.specs.declared.Flaw.TheVariants.{Check}
 use Rattle.block.specs.Limits.{block_size, check_at}
@@ -20,12 +21,10 @@ use Rattle.house.specs.File.{block_at, block_before}
 use Rattle.house.specs.Reading.{is_whole, form_test, verdict}
 use Rattle.house.specs.declared.answer.Refusal.{Refusal}
 use Rattle.house.specs.declared.answer.Refusal.TheVariants.{Block}
-use Rattle.house.specs.declared.answer.Verdict.TheVariants as verdict
 use Rattle.house.proofs.Laws.{block_told}
 use Rattle.writer.specs.Layout.{spelling}
 use Rattle.writer.specs.Laws.{Bytes}
-use Rattle.writer.specs.declared.answer.Writing.{Writing}
-use Rattle.writer.specs.declared.answer.Writing.TheVariants.{Written}
+use Rattle.writer.specs.Answer.{Writing}
 use Rattle.writer.proofs.Blocks.{check_same}
 use Rattle.remake.specs.Mending.{mended, Mends, broken, short, mends}
 use Rattle.remake.specs.Laws.{OneMending, CheckAlone, MendedAlone, MendedSame, MendedPasses}
@@ -33,7 +32,7 @@ use Rattle.remake.proofs.Bounds.{beside}
 
 module _ (s : List ℕ) (whole : is_whole (length s) ≡ true) where
   -- it has block 0
-  long : block_size ≤ length s
+  pub long : block_size ≤ length s
   long =
       let (l, m) = both (leb 1 (length s)) _ whole in
       let (n, z) = both (leb (length s) most_bytes) _ m in
@@ -97,28 +96,26 @@ module _ (s : List ℕ) (whole : is_whole (length s) ≡ true) where
       new_is ∙ ap₂ (λ (x y : ℕ). start ++ x ∷ y ∷ rest) low high ∙ sym old_is
 
   -- the copy, and its check over it
-  put_both : (o c o₁ o₂ : List ℕ) → length s ≤ length o → c ≡ spelling (check s) → o₁ ≡ put_at o 0 s → o₂ ≡ put_at o₁ check_at c
-      → o₂ ≡ front o (mended s)
+  put_both : (o t c : List ℕ) → t ≡ s → c ≡ spelling (check s)
+      → put_mid check_at (block_size - check_at) (t ++ drop (length s) o) c ≡ front o (mended s)
   unfolding mended
-  put_both o c o₁ o₂ l e f g =
+  put_both o t c e f =
       let k : List ℕ = spelling (check s) in
       let later : List ℕ = drop (length s) o in
-      let first : o₁ ≡ s ++ later = put_start o s s o₁ l refl f in
-      let fits : check_at + length k ≤ length (s ++ later) = rw (length-append s later) (omega (arith, long)) in
-      g
-      ∙ ap₂ (λ (x y : List ℕ). put_at x check_at y) first e
-      ∙ put_at_fits (s ++ later) check_at k fits
-      ∙ ap₂ (λ (x y : List ℕ). x ++ k ++ y) (take-append-le check_at s later (omega (arith, long))) (drop-append-le block_size s later long)
-      ∙ sym (append_assoc (start ++ k) rest later)
+      let grouped : start ++ (k ++ (rest ++ later)) ≡ ((start ++ k) ++ rest) ++ later = simp append_assoc in
+      ap₂ (λ (x y : List ℕ). put_mid check_at (block_size - check_at) (x ++ later) y) e f
+      ∙ ap (λ (x : List ℕ). take check_at (s ++ later) ++ (k ++ x)) (drop-drop 2 check_at (s ++ later))
+      ∙ ap₂ (λ (x y : List ℕ). x ++ (k ++ y)) (take-append-le check_at s later (omega (arith, long))) (drop-append-le block_size s later long)
+      ∙ grouped
       ∙ ap (λ (n : ℕ). mended s ++ drop n o) (sym as_long)
 
 -- WHAT WAS WRITTEN
 
-pub mended_by : (s o c o₁ o₂ : List ℕ) → is_whole (length s) ≡ true → length s ≤ length o → c ≡ spelling (check s) → o₁ ≡ put_at o 0 s
-    → o₂ ≡ put_at o₁ check_at c → Mends s o (Written (length s)) o₂
-mended_by s o c o₁ o₂ w l e f g = rw (put_both s w o c o₁ o₂ l e f g) (mends w (le-leb _ _ l))
+pub mended_by : (s o t c : List ℕ) → is_whole (length s) ≡ true → length s ≤ length o → t ≡ s → c ≡ spelling (check s)
+    → Mends s o (Ok (length s)) (put_mid check_at (block_size - check_at) (t ++ drop (length s) o) c)
+mended_by s o t c w l e f = rw (put_both s w o t c e f) (mends w (le-leb _ _ l))
 
-at_start : (s o : List ℕ) (w : Writing) (n : ℕ) (o' : List ℕ) → w ≡ Written n → Mends s o w o' → (is_whole (length s) ≡ true) × (take n o' ≡ mended s)
+at_start : (s o : List ℕ) (w : Writing) (n : ℕ) (o' : List ℕ) → w ≡ Ok n → Mends s o w o' → (is_whole (length s) ≡ true) × (take n o' ≡ mended s)
 at_start s o w n o' e (broken h) = clash (cc)
 at_start s o w n o' e (short h k) = clash (cc)
 at_start s o w n o' e (mends h k) =
@@ -126,10 +123,10 @@ at_start s o w n o' e (mends h k) =
     (h, take_at (mended s) (drop (length (mended s)) o) n (as_long s h ∙ long))
 
 pub mended_alone : MendedAlone
-mended_alone s o n o' m = let (w, e) = at_start s o (Written n) n o' refl m in rw e (alone s w)
+mended_alone s o n o' m = let (w, e) = at_start s o (Ok n) n o' refl m in rw e (alone s w)
 
 pub mended_same : MendedSame
-mended_same s o n o' b c m = let (w, e) = at_start s o (Written n) n o' refl m in e ∙ same s w b c
+mended_same s o n o' b c m = let (w, e) = at_start s o (Ok n) n o' refl m in e ∙ same s w b c
 
 -- block 0 of a file whose check is right
 first_checked : (f : List ℕ) → stored f ≡ check f → check (block_at f 0) ≡ stored (block_at f 0)
@@ -143,7 +140,7 @@ first_checked f e =
     in_first i l = get_or-take block_size f i 0 l
 
 -- a form that is refused is refused by the reader
-form_first : (s : List ℕ) (r : Refusal) → form_test s ≡ verdict.Refused r → verdict s 0 0 ≡ verdict.Refused r
+form_first : (s : List ℕ) (r : Refusal) → form_test s ≡ Err r → verdict s 0 0 ≡ Err r
 unfolding verdict
 form_first s r e = rw e
 

@@ -1,5 +1,5 @@
 -- What is shown of files made from others, each under one sentence. proofs/Laws.antt proves them all. Assumes nothing.
-use Rattle.std.specs.Prelude.{◌≡◌, List, ◌⊎◌, ℕ, ◌+◌, ◌≤◌, length, take}
+use Rattle.std.specs.Prelude.{◌≡◌, List, ◌⊎◌, ℕ, ◌+◌, ◌≤◌, length, take, Ok, Err}
 use Rattle.model.specs.Table.{Bounded}
 use Rattle.table.specs.declared.answer.Refusal.TheVariants.{Waiting}
 use Rattle.flaw.specs.declared.Flaw.TheVariants.{Check}
@@ -11,12 +11,10 @@ use Rattle.house.specs.Reading.{form_test, verdict}
 use Rattle.house.specs.Refusals.{told}
 use Rattle.house.specs.declared.answer.Refusal.{Refusal}
 use Rattle.house.specs.declared.answer.Refusal.TheVariants.{Block, Content}
-use Rattle.house.specs.declared.answer.Verdict.{Verdict}
-use Rattle.house.specs.declared.answer.Verdict.TheVariants as verdict
+use Rattle.house.specs.Verdict.{Verdict}
 use Rattle.writer.specs.Writing.{needed, Writes}
 use Rattle.writer.specs.Laws.{Bytes, SameBytes}
-use Rattle.writer.specs.declared.answer.Writing.{Writing}
-use Rattle.writer.specs.declared.answer.Writing.TheVariants.{Written, Refused}
+use Rattle.writer.specs.Answer.{Writing}
 use Rattle.remake.specs.Remaking.{row_room, event_room, changed, Remakes, waiting_at, losses_at, Elsewhere, Rebinds, rows_end, Retraces}
 use Rattle.remake.specs.Mending.{Mends}
 
@@ -67,7 +65,7 @@ pub record OfTheGiven (waiting losses : ℕ) (r : Refusal) : Type 0 where
 
 abbrev pub GivenTold : Type 0
 GivenTold =
-    (s : List ℕ) (waiting losses : ℕ) (o : List ℕ) (r : Refusal) (o' : List ℕ) → Rebinds s waiting losses o (Refused r) o'
+    (s : List ℕ) (waiting losses : ℕ) (o : List ℕ) (r : Refusal) (o' : List ℕ) → Rebinds s waiting losses o (Err r) o'
     → OfTheGiven waiting losses r
 
 -- A file that is good but for its bounds is rebound with any good ones, if the buffer has room:
@@ -76,12 +74,12 @@ AnyRebound =
     (s : List ℕ) (waiting losses : ℕ) (o : List ℕ) (w : Writing) (o' : List ℕ) → GoodForm s
     → GoodContents (changed s waiting losses (events_of s)) (rows_of s) (events_of s)
     → needed (changed s waiting losses (events_of s)) ≤ length o → Rebinds s waiting losses o w o'
-    → w ≡ Written (needed (changed s waiting losses (events_of s)))
+    → w ≡ Ok (needed (changed s waiting losses (events_of s)))
 
 -- there is one that the reader refuses with 5, and that is rebound.
 pub record RefusedYetRebound (s : List ℕ) : Type 0 where
-  pub refused : verdict s row_room event_room ≡ verdict.Refused (Content (Waiting 0))
-  pub rebound : (o : List ℕ) (w : Writing) (o' : List ℕ) → block_size ≤ length o → Rebinds s 1 1 o w o' → w ≡ Written block_size
+  pub refused : verdict s row_room event_room ≡ Err (Content (Waiting 0))
+  pub rebound : (o : List ℕ) (w : Writing) (o' : List ℕ) → block_size ≤ length o → Rebinds s 1 1 o w o' → w ≡ Ok block_size
 
 abbrev pub SomeRebound : Type 0
 SomeRebound = (s : List ℕ) × RefusedYetRebound s
@@ -100,7 +98,7 @@ pub record BoundsAlone (s : List ℕ) (waiting losses : ℕ) (f : List ℕ) : Ty
 
 abbrev pub ReboundAlone : Type 0
 ReboundAlone =
-    (s : List ℕ) (waiting losses : ℕ) (o : List ℕ) (n : ℕ) (o' : List ℕ) → Bytes s → Rebinds s waiting losses o (Written n) o'
+    (s : List ℕ) (waiting losses : ℕ) (o : List ℕ) (n : ℕ) (o' : List ℕ) → Bytes s → Rebinds s waiting losses o (Ok n) o'
     → BoundsAlone s waiting losses (take n o')
 
 -- and less would not do: with another bound its byte is another, and so is the check, if the old bounds were good. (B 1 and c 11, which
@@ -113,7 +111,7 @@ pub record NoLess (s : List ℕ) (waiting losses : ℕ) (f : List ℕ) : Type 0 
 
 abbrev pub NoLessDoes : Type 0
 NoLessDoes =
-    (s : List ℕ) (waiting losses : ℕ) (o : List ℕ) (n : ℕ) (o' : List ℕ) → Bytes s → Rebinds s waiting losses o (Written n) o'
+    (s : List ℕ) (waiting losses : ℕ) (o : List ℕ) (n : ℕ) (o' : List ℕ) → Bytes s → Rebinds s waiting losses o (Ok n) o'
     → NoLess s waiting losses (take n o')
 
 -- A file with another trace has block 0 and the blocks of rows of the old file, byte for byte; behind them are the events alone.
@@ -123,7 +121,7 @@ pub record TraceAlone (s trace f : List ℕ) : Type 0 where
 
 abbrev pub RetracedAlone : Type 0
 RetracedAlone =
-    (s trace o : List ℕ) (n : ℕ) (o' : List ℕ) → Bytes s → Retraces s trace o (Written n) o' → TraceAlone s trace (take n o')
+    (s trace o : List ℕ) (n : ℕ) (o' : List ℕ) → Bytes s → Retraces s trace o (Ok n) o' → TraceAlone s trace (take n o')
 
 -- THE CHECK PUT RIGHT
 
@@ -139,13 +137,13 @@ pub record CheckAlone (s f : List ℕ) : Type 0 where
   pub check_there : stored f ≡ check f
 
 abbrev pub MendedAlone : Type 0
-MendedAlone = (s o : List ℕ) (n : ℕ) (o' : List ℕ) → Mends s o (Written n) o' → CheckAlone s (take n o')
+MendedAlone = (s o : List ℕ) (n : ℕ) (o' : List ℕ) → Mends s o (Ok n) o' → CheckAlone s (take n o')
 
 -- A file of bytes whose check of block 0 is right comes out as it went in.
 abbrev pub MendedSame : Type 0
-MendedSame = (s o : List ℕ) (n : ℕ) (o' : List ℕ) → Bytes s → stored s ≡ check s → Mends s o (Written n) o' → take n o' ≡ s
+MendedSame = (s o : List ℕ) (n : ℕ) (o' : List ℕ) → Bytes s → stored s ≡ check s → Mends s o (Ok n) o' → take n o' ≡ s
 
 -- 12 is never told of block 0 of a mended file.
 abbrev pub MendedPasses : Type 0
 MendedPasses =
-    (s o : List ℕ) (n : ℕ) (o' : List ℕ) → Mends s o (Written n) o' → form_test (take n o') ≡ verdict.Refused (Block Check 0) → ⊥
+    (s o : List ℕ) (n : ℕ) (o' : List ℕ) → Mends s o (Ok n) o' → form_test (take n o') ≡ Err (Block Check 0) → ⊥

@@ -1,15 +1,13 @@
 -- A house file made from another, with other bounds or with another trace: the answer, and what it leaves in the buffer. Assumes nothing.
-use Rattle.std.specs.Prelude.{◌≡◌, List, ℕ, ◌+◌, ◌*◌, length}
+use Rattle.std.specs.Prelude.{◌≡◌, List, ℕ, ◌+◌, ◌*◌, length, Ok, Err}
 use Rattle.block.specs.Limits.{block_size, payload_at, check_at}
 use Rattle.house.specs.File.{rows_of, events_of, contents_of}
 use Rattle.house.specs.Reading.{given, form_test, verdict}
 use Rattle.house.specs.declared.answer.Contents.{Contents}
 use Rattle.house.specs.declared.answer.Refusal.{Refusal}
-use Rattle.house.specs.declared.answer.Verdict.{Verdict}
-use Rattle.house.specs.declared.answer.Verdict.TheVariants as verdict
+use Rattle.house.specs.Verdict.{Verdict}
 use Rattle.writer.specs.Writing.{blocks_for, Writes}
-use Rattle.writer.specs.declared.answer.Writing.{Writing}
-use Rattle.writer.specs.declared.answer.Writing.TheVariants.{Refused}
+use Rattle.writer.specs.Answer.{Writing}
 
 -- The rooms that a file is read into: the most row bytes, and the most events, that a good file gives.
 abbrev pub row_room : ℕ
@@ -26,9 +24,9 @@ changed s waiting losses trace =
 -- The file s, on which the verdict is v, with these bounds and this trace, written into the buffer o.
 pub data Remakes (v : Verdict) (s : List ℕ) (waiting losses : ℕ) (trace o : List ℕ) : Writing → List ℕ → Type 0 where
   -- where the file is refused, that is the answer, and the buffer is as it was
-  refused : {r : Refusal} → v ≡ verdict.Refused r → Remakes v s waiting losses trace o (Refused r) o
+  refused : {r : Refusal} → v ≡ Err r → Remakes v s waiting losses trace o (Err r) o
   -- else the writer answers
-  written : {w : Writing} {o' : List ℕ} → v ≡ verdict.Passed → Writes (changed s waiting losses trace) (rows_of s) trace o w o'
+  written : {w : Writing} {o' : List ℕ} → v ≡ Ok tt → Writes (changed s waiting losses trace) (rows_of s) trace o w o'
       → Remakes v s waiting losses trace o w o'
 
 -- With these bounds in place of its own, which are not looked at: the file's form is tested, and then what is to be written.

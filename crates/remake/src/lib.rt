@@ -3,111 +3,71 @@
 // the buffer as it was, and later bytes always stay.
 #![tactic(auto)]
 
-ghost use Rattle.std.specs.Prelude.{◌≡◌, take};
-ghost use Rattle.block.specs.Block.{check};
-ghost use Rattle.house.specs.Reading.{given};
-ghost use Rattle.writer.specs.Layout.{spelling};
-ghost use Rattle.writer.specs.Writing.{Writes};
+ghost use Rattle.std.specs.Prelude.{◌≡◌};
 ghost use Rattle.remake.specs.Mending.{Mends};
 ghost use Rattle.remake.specs.Remaking.{Rebinds, Retraces};
 
-use house::{Contents, MOST_BYTES, Reading, Refusal};
+use block::{BLOCK, CHECK_AT};
+use house::{Contents, MOST_BYTES, MOST_EVENTS, MOST_ROWS, Refusal};
 use lent::front;
-use writer::Writing;
+use table::Rules;
 
-// The most bytes of rows, and the most events, that a good file gives.
-const ROW_ROOM: usize = 2048;
-
-const EVENT_ROOM: usize = 4096;
-
-// Writes what was read, with these bounds and this trace.
-fn put<'a>(
-    c: Contents,
-    waiting: usize,
-    losses: usize,
-    rows: &'a [u8],
-    trace: &'a [u8],
-    out: &mut [u8],
-) -> Writing
-    ensures { Writes (given c.source c.states c.inputs c.outputs waiting losses rows.now trace.now) rows.now trace.now out.old result out.new }
+// What a file that was read says of the box, with its rows.
+fn rules(c: Contents, rows: &[u8]) -> Rules<'_>
+    ensures rows_value { result.rows.now ≡ rows.now }
+    ensures counts { (result.states ≡ c.states) × (result.inputs ≡ c.inputs) × (result.outputs ≡ c.outputs) }
+    ensures bounds { (result.waiting ≡ c.waiting) × (result.losses ≡ c.losses) }
 {
-    let source = c.source;
-    writer::write(
-        source,
+    Rules {
         rows,
-        c.states as usize,
-        c.inputs as usize,
-        c.outputs as usize,
-        waiting,
-        losses,
-        trace,
-        out,
-    )
+        states: usize::from(c.states),
+        inputs: usize::from(c.inputs),
+        outputs: usize::from(c.outputs),
+        waiting: usize::from(c.waiting),
+        losses: usize::from(c.losses),
+    }
 }
 
 // Writes the house file `file` with these bounds in place of its own, which are not looked at. Blocks hold no more rows, and no more events,
 // than the longest file has bytes.
-pub fn rebound(file: &[u8], waiting: usize, losses: usize, out: &mut [u8]) -> Writing
+pub fn rebound(file: &[u8], waiting: usize, losses: usize, out: &mut [u8]) -> Result<usize, Refusal>
     ensures { Rebinds file.now waiting losses out.old result out.new }
 {
     let mut rows = [0u8; MOST_BYTES];
     let mut events = [0u8; MOST_BYTES];
-    let reading = house::unpack(file, &mut rows, &mut events);
-    match reading {
-        Reading::Refused(r) => Writing::Refused(r),
-        Reading::Good(c) => put(
-            c,
-            waiting,
-            losses,
-            front(&rows, c.rows),
-            front(&events, c.events),
-            &mut *out,
-        ),
-    }
+    let c = house::unpack(file, &mut rows, &mut events)?;
+    let rebound = Rules {
+        waiting,
+        losses,
+        ..rules(c, front(&rows, c.rows))
+    };
+    writer::write(c.source, &rebound, front(&events, c.events), out)
 }
 
 // Writes the house file `file` with this trace in place of its own. It is read as into rooms for a good file; its own events go nowhere.
-pub fn retrace<'a>(file: &'a [u8], trace: &'a [u8], out: &mut [u8]) -> Writing
+pub fn retrace<'a>(file: &'a [u8], trace: &'a [u8], out: &mut [u8]) -> Result<usize, Refusal>
     ensures { Retraces file.now trace.now out.old result out.new }
 {
-    let mut rows = [0u8; ROW_ROOM];
-    let mut none = [0u8; 0];
-    let reading = house::judge(file, ROW_ROOM, EVENT_ROOM);
-    house::hand(reading, file, &mut rows, &mut none);
-    match reading {
-        Reading::Refused(r) => Writing::Refused(r),
-        Reading::Good(c) => put(
-            c,
-            c.waiting as usize,
-            c.losses as usize,
-            front(&rows, c.rows),
-            trace,
-            &mut *out,
-        ),
-    }
-}
-
-// The check of a file's first bytes, as it stands in block 0.
-fn check_of(file: &[u8]) -> [u8; 2]
-    ensures { result ≡ spelling (check file.now) }
-{
-    let n = block::check(file);
-    [(n % 256) as u8, (n / 256) as u8]
+    let mut rows = [0u8; MOST_ROWS];
+    let reading = house::judge(file, MOST_ROWS, MOST_EVENTS);
+    house::hand(reading, file, &mut rows, &mut []);
+    let c = reading?;
+    writer::write(c.source, &rules(c, front(&rows, c.rows)), trace, out)
 }
 
 // Writes the house file `file` with the check of block 0 put right. Of the file nothing but its length is tested.
-pub fn mend(file: &[u8], out: &mut [u8]) -> Writing
+pub fn mend(file: &[u8], out: &mut [u8]) -> Result<usize, Refusal>
     ensures { Mends file.now out.old result out.new }
 {
     let n = file.len();
     if !house::whole(n) {
-        return Writing::Refused(Refusal::Length(n));
+        return Err(Refusal::Length(n));
     }
     if out.len() < n {
-        return Writing::Refused(Refusal::Content(table::Refusal::Buffer(n)));
+        return Err(Refusal::Content(table::Refusal::Buffer(n)));
     }
-    let check = check_of(file);
-    lent::put_bytes(file, &mut *out, 0);
-    lent::put_bytes(&check, &mut *out, block::CHECK_AT);
-    Writing::Written(n)
+    let check = block::check(file) as u16;
+    out[..n].copy_from_slice(file);
+    out[CHECK_AT..BLOCK].copy_from_slice(&check.to_le_bytes());
+    Ok(n)
 }

@@ -1,4 +1,4 @@
--- Columns as five words: turns of a word, states sorted one after another, and images. Assumes nothing.
+-- Columns: turns of a word, states sorted one after another, and images. Assumes nothing.
 use mathlib.Core.Path.{◌≡◌, refl, sym, ap, ◌∙◌}
 use mathlib.Core.List.{List}
 use mathlib.Core.Logic.{◌↔◌, ◌≢◌, ◌⊎◌, inl, inr, ⊎_elim}
@@ -7,19 +7,21 @@ use native.Mathlib.Nat.{mul_assoc, mod-lt}
 use native.Mathlib.Omega.{arith}
 use native.Mathlib.Decide.{ℕ_discrete}
 use lib.Bits.{bit_or, bit_and, shifted_even, or_zero_r}
-use lib.Dec.{lit<}
-use lib.ListN.{length, get_or, set, length-set, get_or-eq_default}
+use lib.ListN.{length, get_or, set, get_or-eq_default}
 use lib.Pow.{field, mod-mod-pow, shr-shr, shl-shr, pow-add, pow_pos}
 use lib.Seq.{get_or-set_same, get_or-set_other}
 use Rattle.model.proofs.Flags.{lt_or_ge}
-use Rattle.states.specs.In.{In, Has, Least}
+use Rattle.std.specs.Prelude.{Some}
+use Rattle.states.specs.In.{In, Least}
 use Rattle.states.specs.Rows.{byte_at, Leads, Image}
 use Rattle.states.proofs.Member.{not_in_zero, in_lt, in_or, in_or_with, in_and, in_shr, in_one}
-use Rattle.states.proofs.Ends.{least_in, without_least}
+use Rattle.states.proofs.Ends.{without_least}
 use Rattle.states.proofs.Through.{Going, going_more}
 use Rattle.states.proofs.Words.{get_or_within}
 use Rattle.states.proofs.Same.{zero_none}
-use Rattle.run.specs.Column.{Turned, Moves, SortedBy, Sorted, Put5, Ready}
+use Rattle.run.specs.declared.column.Column.{Column}
+use Rattle.run.specs.Column.{Turned, Moves, SortedBy, Sorted, Ready}
+use Rattle.std.specs.Int.{w64, rotate_left}
 
 -- TURNS
 
@@ -55,13 +57,13 @@ in_shl t d x = ⊎_elim low high (lt_or_ge t d)
         let b : x * 2 ^ d / 2 ^ t ≡ x * 2 ^ suc (d - t - 1) = ap (λ (y : ℕ). y / 2 ^ t) a ∙ shl-shr (x * 2 ^ suc (d - t - 1)) t in
         ((λ i. absurd (omega (arith, ap (λ (y : ℕ). y % 2) b, shifted_even x (d - t - 1)))), (λ (k, i). absurd (omega arith)))
 
-pub turned_none : (x d t : ℕ) → x < 2 ^ 64 → d ≡ 0 → In t x ↔ Turned x d t
+turned_none : (x d t : ℕ) → x < 2 ^ 64 → d ≡ 0 → In t x ↔ Turned x d t
 turned_none x d t l z = (
   (λ i. let s = in_lt 64 t x l i in record { from = t; here = i; there = omega arith }),
   (λ u. let s = in_lt 64 u.from x l u.here in let e : u.from ≡ t = omega (arith, u.there) in rw e at u.here),
 )
 
-pub turned_is : (x d t : ℕ) → x < 2 ^ 64 → 0 < d → d < 64 → In t (bit_or (x * 2 ^ d % 2 ^ 64) (x / 2 ^ (64 - d))) ↔ Turned x d t
+turned_is : (x d t : ℕ) → x < 2 ^ 64 → 0 < d → d < 64 → In t (bit_or (x * 2 ^ d % 2 ^ 64) (x / 2 ^ (64 - d))) ↔ Turned x d t
 turned_is x d t l pos few = (
   (λ i. ⊎_elim up over ((in_or t (x * 2 ^ d % 2 ^ 64) (x / 2 ^ (64 - d))).0 i)),
   (λ u. (in_or t (x * 2 ^ d % 2 ^ 64) (x / 2 ^ (64 - d))).1 (back u)),
@@ -87,6 +89,26 @@ turned_is x d t l pos few = (
         (λ m. let e : u.from ≡ t - d = omega arith in inl ((in_mod t (x * 2 ^ d)).1 (omega arith, (in_shl t d x).1 (omega arith, rw e at u.here))))
         (λ m. let e : u.from ≡ 64 - d + t = omega arith in inr ((in_shr t (64 - d) x).1 (rw e at u.here))) (lt_or_ge (u.from + d) 64)
 
+-- a turn of a word by fewer than 64 places
+pub turned_by : (x d : ℕ) → x < 2 ^ 64 → d < 64 → (t : ℕ) → In t (rotate_left w64 x d) ↔ Turned x d t
+turned_by x d l few t = ⊎_elim none some (lt_or_ge 0 d)
+  where
+    same : (a b : ℕ) → a ≡ x → b ≡ x → d ≤ 0 → In t (bit_or a b) ↔ Turned x d t
+    same a b ea eb z =
+        let n = turned_none x d t l (omega arith) in
+        rw (ea, eb) ((λ i. n.0 (⊎_elim (λ j. j) (λ j. j) ((in_or t x x).0 i))), (λ u. (in_or t x x).1 (inl (n.1 u))))
+
+    small : d % 64 ≡ d
+    small = omega arith
+
+    none : 0 < d → In t (rotate_left w64 x d) ↔ Turned x d t
+    none pos = let e : (64 - d % 64) % 64 ≡ 64 - d = omega arith in rw (e, small) (turned_is x d t l pos few)
+
+    some : d ≤ 0 → In t (rotate_left w64 x d) ↔ Turned x d t
+    some z =
+        let a : d % 64 ≡ 0 = omega arith in
+        rw a (same (x * 2 ^ 0 % 2 ^ 64) (x / 2 ^ 0) (omega arith) (omega arith) z)
+
 -- STATES, SORTED
 
 module _ (f : ℕ → ℕ) (n : ℕ) where
@@ -109,18 +131,18 @@ module _ (f : ℕ → ℕ) (n : ℕ) where
       old s i (inl z) = absurd (zero_none z s i)
       old s i (inr q) = rw q at (m.leads s i)
 
-pub sorted_none : (f : ℕ → ℕ) (x : List ℕ) → length x ≡ 5 → ((i : ℕ) → get_or x i 0 ≡ 0) → SortedBy f 0 x
-sorted_none f x size z =
-    record {
-      size = size;
-      near = rw (z 0, z 1) (moves_none f 0);
-      far = rw (z 2, z 3) (moves_none f 0);
-      rest_below = λ s i. absurd (zero_none (z 4) s i);
-      rest_leads = λ s i. absurd (zero_none (z 4) s i);
-      all = λ s l. absurd (omega arith);
-    }
+module _ (f : ℕ → ℕ) where
+  pub sorted_none : SortedBy f 0 (record { near = 0; near_by = 0; far_by = 0; far = 0; rest = 0 })
+  sorted_none =
+      record {
+        near = moves_none f 0;
+        far = moves_none f 0;
+        rest_below = λ s i. absurd (not_in_zero s i);
+        rest_leads = λ s i. absurd (not_in_zero s i);
+        all = λ s l. absurd (omega arith);
+      }
 
-module _ (f : ℕ → ℕ) (n : ℕ) (x : List ℕ) (h : SortedBy f n x) where
+module _ (f : ℕ → ℕ) (n : ℕ) (x : Column) (h : SortedBy f n x) where
   -- the states so far, or n
   below_more : (P : ℕ → Type 0) → ((s : ℕ) → s < n → f s < 64 → P s) → (f n < 64 → P n) → (s : ℕ) → s < n + 1 → f s < 64 → P s
   below_more P old new s l m =
@@ -133,111 +155,82 @@ module _ (f : ℕ → ℕ) (n : ℕ) (x : List ℕ) (h : SortedBy f n x) where
   pub sorted_skip : 64 ≤ f n → SortedBy f (n + 1) x
   sorted_skip out =
       record {
-        size = h.size;
         near = moves_keep f n h.near;
         far = moves_keep f n h.far;
         rest_below = λ s i. let l = h.rest_below s i in omega arith;
         rest_leads = h.rest_leads;
-        all = below_more (λ s. Has x 0 s ⊎ (Has x 2 s ⊎ Has x 4 s)) h.all (λ l. absurd (omega arith));
+        all = below_more (λ s. In s (bit_or (bit_or x.near x.far) x.rest)) h.all (λ l. absurd (omega arith));
       }
 
   module _ (d : ℕ) (few : n < 64) (small : d < 64) (leads : (n + d) % 64 ≡ f n) where
-    bit : ℕ
-    bit = 1 * 2 ^ n % 2 ^ 64
+    -- the states of three words are those of each; n joins a word, and what was there stays
+    three : (a b c s : ℕ) → In s (bit_or (bit_or a b) c) ↔ (In s a ⊎ (In s b ⊎ In s c))
+    three a b c s = (
+      (λ i. ⊎_elim (λ j. ⊎_elim inl (λ k. inr (inl k)) ((in_or s a b).0 j)) (λ j. inr (inr j)) ((in_or s (bit_or a b) c).0 i)),
+      (λ u. (in_or s (bit_or a b) c).1 (⊎_elim (λ i. inl ((in_or s a b).1 (inl i))) (⊎_elim (λ i. inl ((in_or s a b).1 (inr i))) inr) u)),
+    )
 
-    -- n joins a word
     joins : (w : ℕ) → In n (bit_or w (1 * 2 ^ n % 2 ^ 64))
     joins w = (in_or n w (1 * 2 ^ n % 2 ^ 64)).1 (inr ((in_one n n few).1 refl))
 
     keeps : (w s : ℕ) → In s w → In s (bit_or w (1 * 2 ^ n % 2 ^ 64))
     keeps w s i = (in_or s w (1 * 2 ^ n % 2 ^ 64)).1 (inl i)
 
-    pub sorted_near : get_or x 1 0 ≡ d → SortedBy f (n + 1) (set x 0 (bit_or (get_or x 0 0) (1 * 2 ^ n % 2 ^ 64)))
+    pub sorted_near : x.near_by ≡ d → SortedBy f (n + 1) (record x { near = bit_or x.near (1 * 2 ^ n % 2 ^ 64) })
     sorted_near same =
-        let size = h.size in
-        let e₀ : get_or (set x 0 (bit_or (get_or x 0 0) (1 * 2 ^ n % 2 ^ 64))) 0 0 ≡ bit_or (get_or x 0 0) (1 * 2 ^ n % 2 ^ 64) = get_or-set_same x 0 _ 0 (omega arith) in
-        let e : (i : ℕ) → i ≢ 0 → get_or (set x 0 (bit_or (get_or x 0 0) (1 * 2 ^ n % 2 ^ 64))) i 0 ≡ get_or x i 0 = λ i a. get_or-set_other x 0 i _ 0 a in
-        let f₁ : get_or (set x 0 (bit_or (get_or x 0 0) (1 * 2 ^ n % 2 ^ 64))) 1 0 ≡ d = e 1 (λ e. omega arith) ∙ same in
-        let f₂ = e 2 (λ e. omega arith) in
-        let f₃ = e 3 (λ e. omega arith) in
-        let f₄ = e 4 (λ e. omega arith) in
         record {
-          size = length-set x 0 _ ∙ h.size;
-          near = rw (e₀, f₁) (moves_more f n (get_or x 0 0) (get_or x 1 0) d few small leads (inr same) h.near);
-          far = rw (f₂, f₃) (moves_keep f n h.far);
-          rest_below = λ s i. let l = h.rest_below s (rw f₄ at i) in omega arith;
-          rest_leads = λ s i. h.rest_leads s (rw f₄ at i);
-          all = rw (e₀, f₂, f₄) (below_more (λ s. In s (bit_or (get_or x 0 0) (1 * 2 ^ n % 2 ^ 64)) ⊎ (Has x 2 s ⊎ Has x 4 s))
-              (λ s l m. ⊎_elim (λ i. inl (keeps (get_or x 0 0) s i)) inr (h.all s l m)) (λ m. inl (joins (get_or x 0 0))));
+          near = rw (sym same) at (moves_more f n x.near x.near_by d few small leads (inr same) h.near);
+          far = moves_keep f n h.far;
+          rest_below = λ s i. let l = h.rest_below s i in omega arith;
+          rest_leads = h.rest_leads;
+          all = below_more (λ s. In s (bit_or (bit_or (bit_or x.near (1 * 2 ^ n % 2 ^ 64)) x.far) x.rest))
+              (λ s l m. (three (bit_or x.near (1 * 2 ^ n % 2 ^ 64)) x.far x.rest s).1 (⊎_elim (λ i. inl (keeps x.near s i)) inr ((three x.near x.far x.rest s).0 (h.all s l m))))
+              (λ m. (three (bit_or x.near (1 * 2 ^ n % 2 ^ 64)) x.far x.rest n).1 (inl (joins x.near)));
         }
 
-    pub sorted_far : (get_or x 2 0 ≡ 0) ⊎ (get_or x 3 0 ≡ d) → SortedBy f (n + 1) (set (set x 2 (bit_or (get_or x 2 0) (1 * 2 ^ n % 2 ^ 64))) 3 d)
+    pub sorted_far : (x.far ≡ 0) ⊎ (x.far_by ≡ d) → SortedBy f (n + 1) (record x { far = bit_or x.far (1 * 2 ^ n % 2 ^ 64); far_by = d })
     sorted_far fits =
-        let size = h.size in
-        let l₁ : length (set x 2 (bit_or (get_or x 2 0) (1 * 2 ^ n % 2 ^ 64))) ≡ 5 = length-set x 2 _ ∙ h.size in
-        let e₂ : get_or (set (set x 2 (bit_or (get_or x 2 0) (1 * 2 ^ n % 2 ^ 64))) 3 d) 2 0 ≡ bit_or (get_or x 2 0) (1 * 2 ^ n % 2 ^ 64) = get_or-set_other (set x 2 (bit_or (get_or x 2 0) (1 * 2 ^ n % 2 ^ 64))) 3 2 d 0 (λ e. omega arith) ∙ get_or-set_same x 2 (bit_or (get_or x 2 0) (1 * 2 ^ n % 2 ^ 64)) 0 (omega arith) in
-        let e₃ : get_or (set (set x 2 (bit_or (get_or x 2 0) (1 * 2 ^ n % 2 ^ 64))) 3 d) 3 0 ≡ d = get_or-set_same (set x 2 (bit_or (get_or x 2 0) (1 * 2 ^ n % 2 ^ 64))) 3 d 0 (omega arith) in
-        let e : (i : ℕ) → i ≢ 2 → i ≢ 3 → get_or (set (set x 2 (bit_or (get_or x 2 0) (1 * 2 ^ n % 2 ^ 64))) 3 d) i 0 ≡ get_or x i 0 =
-        λ i a b. get_or-set_other (set x 2 (bit_or (get_or x 2 0) (1 * 2 ^ n % 2 ^ 64))) 3 i d 0 b ∙ get_or-set_other x 2 i (bit_or (get_or x 2 0) (1 * 2 ^ n % 2 ^ 64)) 0 a in
-        let f₀ = e 0 (λ e. omega arith) (λ e. omega arith) in
-        let f₁ = e 1 (λ e. omega arith) (λ e. omega arith) in
-        let f₄ = e 4 (λ e. omega arith) (λ e. omega arith) in
         record {
-          size = length-set (set x 2 (bit_or (get_or x 2 0) (1 * 2 ^ n % 2 ^ 64))) 3 d ∙ l₁;
-          near = rw (f₀, f₁) (moves_keep f n h.near);
-          far = rw (e₂, e₃) (moves_more f n (get_or x 2 0) (get_or x 3 0) d few small leads fits h.far);
-          rest_below = λ s i. let l = h.rest_below s (rw f₄ at i) in omega arith;
-          rest_leads = λ s i. h.rest_leads s (rw f₄ at i);
-          all = rw (f₀, e₂, f₄) (below_more (λ s. Has x 0 s ⊎ (In s (bit_or (get_or x 2 0) (1 * 2 ^ n % 2 ^ 64)) ⊎ Has x 4 s))
-              (λ s l m. ⊎_elim inl (⊎_elim (λ i. inr (inl (keeps (get_or x 2 0) s i))) (λ i. inr (inr i))) (h.all s l m)) (λ m. inr (inl (joins (get_or x 2 0)))));
+          near = moves_keep f n h.near;
+          far = moves_more f n x.far x.far_by d few small leads fits h.far;
+          rest_below = λ s i. let l = h.rest_below s i in omega arith;
+          rest_leads = h.rest_leads;
+          all = below_more (λ s. In s (bit_or (bit_or x.near (bit_or x.far (1 * 2 ^ n % 2 ^ 64))) x.rest))
+              (λ s l m. (three x.near (bit_or x.far (1 * 2 ^ n % 2 ^ 64)) x.rest s).1 (⊎_elim inl (⊎_elim (λ i. inr (inl (keeps x.far s i))) (λ i. inr (inr i))) ((three x.near x.far x.rest s).0 (h.all s l m))))
+              (λ m. (three x.near (bit_or x.far (1 * 2 ^ n % 2 ^ 64)) x.rest n).1 (inr (inl (joins x.far))));
         }
 
-    pub sorted_rest : SortedBy f (n + 1) (set x 4 (bit_or (get_or x 4 0) (1 * 2 ^ n % 2 ^ 64)))
+    pub sorted_rest : SortedBy f (n + 1) (record x { rest = bit_or x.rest (1 * 2 ^ n % 2 ^ 64) })
     sorted_rest =
-        let size = h.size in
-        let e₄ : get_or (set x 4 (bit_or (get_or x 4 0) (1 * 2 ^ n % 2 ^ 64))) 4 0 ≡ bit_or (get_or x 4 0) (1 * 2 ^ n % 2 ^ 64) = get_or-set_same x 4 _ 0 (omega arith) in
-        let e : (i : ℕ) → i ≢ 4 → get_or (set x 4 (bit_or (get_or x 4 0) (1 * 2 ^ n % 2 ^ 64))) i 0 ≡ get_or x i 0 = λ i a. get_or-set_other x 4 i _ 0 a in
-        let f₀ = e 0 (λ e. omega arith) in
-        let f₁ = e 1 (λ e. omega arith) in
-        let f₂ = e 2 (λ e. omega arith) in
-        let f₃ = e 3 (λ e. omega arith) in
         record {
-          size = length-set x 4 _ ∙ h.size;
-          near = rw (f₀, f₁) (moves_keep f n h.near);
-          far = rw (f₂, f₃) (moves_keep f n h.far);
+          near = moves_keep f n h.near;
+          far = moves_keep f n h.far;
           rest_below = λ s i. ⊎_elim (λ j. let l = h.rest_below s j in omega arith) (λ j. let k = (in_one s n few).0 j in omega arith)
-              ((in_or s (get_or x 4 0) (1 * 2 ^ n % 2 ^ 64)).0 (rw e₄ at i));
-          rest_leads = λ s i. ⊎_elim (h.rest_leads s) (λ j. let k : s ≡ n = (in_one s n few).0 j in rw k (let z : (n + d) % 64 < 64 = mod-lt (n + d) (lit< tt) in omega arith))
-              ((in_or s (get_or x 4 0) (1 * 2 ^ n % 2 ^ 64)).0 (rw e₄ at i));
-          all = rw (f₀, f₂, e₄) (below_more (λ s. Has x 0 s ⊎ (Has x 2 s ⊎ In s (bit_or (get_or x 4 0) (1 * 2 ^ n % 2 ^ 64))))
-              (λ s l m. ⊎_elim inl (⊎_elim (λ i. inr (inl i)) (λ i. inr (inr (keeps (get_or x 4 0) s i)))) (h.all s l m)) (λ m. inr (inr (joins (get_or x 4 0)))));
+              ((in_or s x.rest (1 * 2 ^ n % 2 ^ 64)).0 i);
+          rest_leads = λ s i. ⊎_elim (h.rest_leads s) (λ j. let k : s ≡ n = (in_one s n few).0 j in rw k (omega (arith, leads)))
+              ((in_or s x.rest (1 * 2 ^ n % 2 ^ 64)).0 i);
+          all = below_more (λ s. In s (bit_or (bit_or x.near x.far) (bit_or x.rest (1 * 2 ^ n % 2 ^ 64))))
+              (λ s l m. (three x.near x.far (bit_or x.rest (1 * 2 ^ n % 2 ^ 64)) s).1 (⊎_elim inl (⊎_elim (λ i. inr (inl i)) (λ i. inr (inr (keeps x.rest s i)))) ((three x.near x.far x.rest s).0 (h.all s l m))))
+              (λ m. (three x.near x.far (bit_or x.rest (1 * 2 ^ n % 2 ^ 64)) n).1 (inr (inr (joins x.rest))));
         }
 
--- ALL COLUMNS
+-- the column at a place
+pub column_at : (rows : List ℕ) (width k i : ℕ) (columns : List Column) (d : Column) → Ready rows width width columns → i ≡ k → k < width
+    → Sorted rows width k 64 (get_or columns i d)
+column_at rows width k i columns d h e l = rw e (h k d l)
 
-pub ready_none : (rows : List ℕ) (width : ℕ) (columns : List ℕ) → length columns ≡ 160 → Ready rows width 0 columns
-ready_none rows width columns e =
-    record { size = e; column = λ k l. absurd (omega arith); sorted = λ k l. absurd (omega arith); words = λ k l. absurd (omega arith) }
-
-pub ready_more : (rows : List ℕ) (width n : ℕ) (x before after : List ℕ) → Ready rows width n before → Sorted rows width n 64 x → Put5 n x before after → Ready rows width (n + 1) after
-ready_more rows width n x before after h s p =
-    record {
-      size = p.size ∙ h.size;
-      column = λ k l. (pick k (ℕ_discrete k n) l).0;
-      sorted = λ k l. (pick k (ℕ_discrete k n) l).1;
-      words = λ k l. (pick k (ℕ_discrete k n) l).2;
-    }
-  where
-    pick : (k : ℕ) → Dec (k ≡ n) → k < n + 1 → (c : List ℕ) × Sorted rows width k 64 c × ((i : ℕ) → i < 5 → get_or after (5 * k + i) 0 ≡ get_or c i 0)
-    pick k (yes e) l = rw e (x, s, p.words)
-    pick k (no d) l =
-        let o : k ≢ n = d in
-        let m : k < n = omega arith in
-        (h.column k m, h.sorted k m, λ i j. p.below (5 * k + i) (omega arith) ∙ h.words k m i j)
+-- one more stands
+pub ready_more : (rows : List ℕ) (width n i : ℕ) (columns : List Column) (x : Column) → i ≡ n → n < length columns → Ready rows width n columns
+    → Sorted rows width n 64 x → Ready rows width (n + 1) (set columns i x)
+ready_more rows width n i columns x e room h s k d l =
+    elim (ℕ_discrete k n) [
+      | yes q ↦ rw (q, e, get_or-set_same columns n x d room) s
+      | no q ↦ let o : k ≢ n = q in rw (e, get_or-set_other columns n k x d o) (h k d (omega arith))
+    ]
 
 -- IMAGES
 
-module _ (rows : List ℕ) (width k : ℕ) (x : List ℕ) (h : Sorted rows width k 64 x) (from : ℕ) where
+module _ (rows : List ℕ) (width k : ℕ) (x : Column) (h : Sorted rows width k 64 x) (from : ℕ) where
   -- from a mask
   mask_to : (mask d t : ℕ) → Moves (byte_at rows width k) 64 mask d → Turned (bit_and from mask) d t → Image rows width k from t
   mask_to mask d t m u =
@@ -248,49 +241,32 @@ module _ (rows : List ℕ) (width k : ℕ) (x : List ℕ) (h : Sorted rows width
   mask_from : (mask d s t : ℕ) → Moves (byte_at rows width k) 64 mask d → In s from → In s mask → byte_at rows width k s ≡ t → Turned (bit_and from mask) d t
   mask_from mask d s t m a b e = record { from = s; here = (in_and s from mask).1 (a, b); there = m.leads s b ∙ e }
 
-  pub image_is : (near far rest t : ℕ) → ((t : ℕ) → In t near ↔ Turned (bit_and from (get_or x 0 0)) (get_or x 1 0) t) → ((t : ℕ) → In t far ↔ Turned (bit_and from (get_or x 2 0)) (get_or x 3 0) t)
-      → ((t : ℕ) → In t rest ↔ Image rows width k (bit_and from (get_or x 4 0)) t) → from < 2 ^ 64 → In t (bit_or (bit_or near far) rest) ↔ Image rows width k from t
-  image_is near far rest t a b c l = (
-    (λ i. ⊎_elim (λ j. ⊎_elim (λ p. mask_to (get_or x 0 0) (get_or x 1 0) t h.near ((a t).0 p)) (λ p. mask_to (get_or x 2 0) (get_or x 3 0) t h.far ((b t).0 p)) ((in_or t near far).0 j))
-        (λ j. let m = (c t).0 j in record { source = m.source; here = ((in_and m.source from (get_or x 4 0)).0 m.here).0; leads = m.leads }) ((in_or t (bit_or near far) rest).0 i)),
-    (λ m. let s = m.source in
-        let le = in_lt 64 m.source from l m.here in
-        let e = m.leads.byte in
-        let st = m.leads.state in
-        ⊎_elim (λ p. (in_or t (bit_or near far) rest).1 (inl ((in_or t near far).1 (inl ((a t).1 (mask_from (get_or x 0 0) (get_or x 1 0) m.source t h.near m.here p e))))))
-        (⊎_elim (λ p. (in_or t (bit_or near far) rest).1 (inl ((in_or t near far).1 (inr ((b t).1 (mask_from (get_or x 2 0) (get_or x 3 0) m.source t h.far m.here p e))))))
-        (λ p. (in_or t (bit_or near far) rest).1 (inr ((c t).1 (record { source = m.source; here = (in_and m.source from (get_or x 4 0)).1 (m.here, p); leads = m.leads }))))) (h.all m.source le (omega arith))),
-  )
-
--- the same, of the column where it stands
-module _ (rows : List ℕ) (width k : ℕ) (columns : List ℕ) (h : Ready rows width width columns) (l : k < width) where
-  at : (i : ℕ) → i < 5 → get_or columns (5 * k + i) 0 ≡ get_or (h.column k l) i 0
-  at i j = h.words k l i j
-
-  at_first : get_or columns (5 * k) 0 ≡ get_or (h.column k l) 0 0
-  at_first = let e : 5 * k + 0 ≡ 5 * k = omega arith in rw e at (at 0 (omega arith))
-
-  pub ready_near : get_or columns (5 * k + 1) 0 < 64
-  ready_near = rw (at 1 (omega arith)) (h.sorted k l).near.small
-
-  pub ready_far : get_or columns (5 * k + 3) 0 < 64
-  ready_far = rw (at 3 (omega arith)) (h.sorted k l).far.small
-
-  -- what is left of a set after the masks leads somewhere
-  pub ready_rest : (from s : ℕ) → In s (bit_and from (get_or columns (5 * k + 4) 0)) → byte_at rows width k s < 64
-  ready_rest from s i = (h.sorted k l).rest_leads s (rw (at 4 (omega arith)) at ((in_and s from (get_or columns (5 * k + 4) 0)).0 i).1)
-
-  module _ (from near far : ℕ) (few : from < 2 ^ 64) (a : (t : ℕ) → In t near ↔ Turned (bit_and from (get_or columns (5 * k) 0)) (get_or columns (5 * k + 1) 0) t)
-      (b : (t : ℕ) → In t far ↔ Turned (bit_and from (get_or columns (5 * k + 2) 0)) (get_or columns (5 * k + 3) 0) t) where
-    pub image_all : (rest : ℕ) → ((t : ℕ) → In t rest ↔ Image rows width k (bit_and from (get_or columns (5 * k + 4) 0)) t)
+  module _ (few : from < 2 ^ 64) (near far : ℕ) (a : (t : ℕ) → In t near ↔ Turned (bit_and from x.near) x.near_by t)
+      (b : (t : ℕ) → In t far ↔ Turned (bit_and from x.far) x.far_by t) where
+    pub image_all : (rest : ℕ) → ((t : ℕ) → In t rest ↔ Image rows width k (bit_and from x.rest) t)
         → (t : ℕ) → In t (bit_or (bit_or near far) rest) ↔ Image rows width k from t
-    image_all rest c t =
-        image_is rows width k (h.column k l) (h.sorted k l) from near far rest t
-        (rw (at_first, at 1 (omega arith)) at a) (rw (at 2 (omega arith), at 3 (omega arith)) at b) (rw (at 4 (omega arith)) at c) few
+    image_all rest c t = (
+      (λ i. ⊎_elim (λ j. ⊎_elim (λ p. mask_to x.near x.near_by t h.near ((a t).0 p)) (λ p. mask_to x.far x.far_by t h.far ((b t).0 p)) ((in_or t near far).0 j))
+          (λ j. let m = (c t).0 j in record { source = m.source; here = ((in_and m.source from x.rest).0 m.here).0; leads = m.leads }) ((in_or t (bit_or near far) rest).0 i)),
+      (λ m. let s = m.source in
+          let le = in_lt 64 m.source from few m.here in
+          let e = m.leads.byte in
+          let st = m.leads.state in
+          ⊎_elim
+          (λ q. (in_or t (bit_or near far) rest).1 (inl ((in_or t near far).1 (⊎_elim
+          (λ p. inl ((a t).1 (mask_from x.near x.near_by m.source t h.near m.here p e)))
+          (λ p. inr ((b t).1 (mask_from x.far x.far_by m.source t h.far m.here p e))) ((in_or m.source x.near x.far).0 q)))))
+          (λ p. (in_or t (bit_or near far) rest).1 (inr ((c t).1 (record { source = m.source; here = (in_and m.source from x.rest).1 (m.here, p); leads = m.leads }))))
+          ((in_or m.source (bit_or x.near x.far) x.rest).0 (h.all m.source le (omega arith)))),
+    )
 
-    pub image_turned : bit_and from (get_or columns (5 * k + 4) 0) ≡ 0 → (t : ℕ) → In t (bit_or near far) ↔ Image rows width k from t
+    pub image_turned : bit_and from x.rest ≡ 0 → (t : ℕ) → In t (bit_or near far) ↔ Image rows width k from t
     image_turned z t =
         rw (or_zero_r (bit_or near far)) at (image_all 0 (λ t. ((λ i. absurd (not_in_zero t i)), (λ m. absurd (zero_none z m.source m.here)))) t)
+
+  -- what is left of a set after the masks leads somewhere
+  pub rest_leads : (s : ℕ) → In s (bit_and from x.rest) → byte_at rows width k s < 64
+  rest_leads s i = h.rest_leads s ((in_and s from x.rest).0 i).1
 
 -- a state whose byte is a state has its row
 pub row_there : (rows : List ℕ) (width column s : ℕ) → byte_at rows width column s < 64 → s * width + column < length rows
@@ -299,10 +275,10 @@ row_there rows width column s l =
 
 -- A WALK OVER STATES THAT ARE ALLOWED
 
-module _ (rows : List ℕ) (width column from left s : ℕ) (some : left ≡ 0 → ⊥) (least : Least left s) (within : (q : ℕ) → In q left → In q from)
+module _ (rows : List ℕ) (width column from left s : ℕ) (least : Least left (Some s)) (within : (q : ℕ) → In q left → In q from)
     (allowed : (q : ℕ) → In q from → byte_at rows width column q < 64) where
   pub led_state : byte_at rows width column s < 64
-  led_state = allowed s (within s (least_in left s some least))
+  led_state = allowed s (within s least.0)
 
   pub led_row : s * width + column < length rows
   led_row = row_there rows width column s led_state
@@ -311,12 +287,12 @@ module _ (rows : List ℕ) (width column from left s : ℕ) (some : left ≡ 0 �
   led_byte = rw (get_or_within rows (s * width + column) 0 255 led_row) led_state
 
   pub led_within : (q : ℕ) → In q (bit_and left (left - 1)) → In q from
-  led_within q i = within q ((without_least left s some least q).0 i).0
+  led_within q i = within q ((without_least left s least q).0 i).0
 
   pub led_more : (out : ℕ) → Going (Leads rows width column) from left out
       → Going (Leads rows width column) from (bit_and left (left - 1)) (bit_or out (1 * 2 ^ get_or rows (s * width + column) 0 % 2 ^ 64))
   led_more out g =
-      going_more (Leads rows width column) from s (bit_or out (1 * 2 ^ get_or rows (s * width + column) 0 % 2 ^ 64)) some least
+      going_more (Leads rows width column) from s (bit_or out (1 * 2 ^ get_or rows (s * width + column) 0 % 2 ^ 64)) least
       (in_or_with (Leads rows width column s) out (1 * 2 ^ get_or rows (s * width + column) 0 % 2 ^ 64) (λ q. (
         (λ i. let e : q ≡ get_or rows (s * width + column) 0 = (in_one q (get_or rows (s * width + column) 0) led_byte).0 i in
             record { byte = sym (e ∙ get_or_within rows (s * width + column) 0 255 led_row); state = rw e led_byte }),

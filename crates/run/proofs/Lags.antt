@@ -4,17 +4,21 @@ use mathlib.Core.List.{List}
 use mathlib.Core.Logic.{◌↔◌, ◌≢◌, ◌⊎◌, inl, inr, ⊎_elim}
 use Prim.Native.Nat.{ℕ, suc, ◌+◌, ◌-◌, ◌≤◌, ◌<◌, min}
 use native.Mathlib.Omega.{arith}
+use Rattle.std.proofs.Common.{rules}
+use Rattle.std.proofs.lemmas.List.{places}
 use native.Mathlib.Decide.{ℕ_discrete}
 use lib.Bits.{bit_or}
 use lib.ListN.{length, get_or, set, length-set}
 use lib.Seq.{get_or-set_same, get_or-set_other}
 use Rattle.model.proofs.Flags.{lt_or_ge}
-use Rattle.states.specs.In.{In}
+use Rattle.states.specs.In.{In, AnyOf}
 use Rattle.states.specs.Rows.{Image}
 use Rattle.states.proofs.Member.{not_in_zero, in_or}
-use Rattle.states.proofs.Words.{Written}
 use Rattle.states.proofs.Same.{some_in, zero_none}
-use Rattle.run.specs.Lag.{Within, Drawn, Copied, Based, Came, FollowedFrom, DrawnFrom, Went, HasLag, LeastLag, PastLags}
+use Rattle.run.specs.Lag.{Within, Drawn, Based, Came, FollowedFrom, DrawnFrom, Went, HasLag, PastLags, past_of, Found, Spanned, Tallied, SmallLags}
+use Rattle.run.specs.declared.lag.Lags.{Lags}
+use Rattle.std.specs.Prelude.{Option, Some, None, MatchOption, EachIndex, slice_index}
+use borrow.Rule.Slice.PartMut.{put_mid, mid_of}
 
 -- equal words have the same states
 pub same_word : {x y : ℕ} (s : ℕ) → x ≡ y → In s x ↔ In s y
@@ -67,25 +71,6 @@ drawn_image rows width column c words at from x w im t = (
 
 -- AN INPUT
 
-pub copied : (before after : List ℕ) → Written 64 40 (λ j. get_or before j 0) before after → Copied before after
-copied before after w = record { size = w.size; moved = w.words; below = w.below }
-
-pub based_here : (base : ℕ) (words line : List ℕ) → 0 < base → base ≤ 64 → length words ≡ 104 → length line ≡ 104 → Based base words line base words line
-based_here base words line pos low ws ls =
-    record { above = pos; low = low; words_long = ws; line_long = ls; words_same = λ j i. refl; line_same = λ j i. refl }
-
-pub based_up : (base : ℕ) (words line words' line' : List ℕ) → base ≡ 0 → length words ≡ 104 → length line ≡ 104 → Copied words words' → Copied line line'
-    → Based base words line 64 words' line'
-based_up base words line words' line' z ws ls cw cl =
-    record {
-      above = omega arith;
-      low = omega arith;
-      words_long = cw.size ∙ ws;
-      line_long = cl.size ∙ ls;
-      words_same = λ j i. let e : base + j ≡ j = omega arith in rw e (cw.moved j i);
-      line_same = λ j i. let e : base + j ≡ j = omega arith in rw e (cl.moved j i);
-    }
-
 pub came_in : (rows : List ℕ) (width c a base : ℕ) (words line : List ℕ) (up : ℕ) (words₁ line₁ : List ℕ) (x : ℕ) → Based base words line up words₁ line₁
     → ((t : ℕ) → In t x ↔ Drawn rows width a c words₁ (up - 1 + 1) t)
     → Came rows width c a base words line (up - 1) (set words₁ (up - 1) x) (set line₁ (up - 1) a)
@@ -110,23 +95,42 @@ came_in rows width c a base words line up words₁ line₁ x b d =
 
 -- AN OUTPUT
 
-module _ (rows : List ℕ) (width column base m : ℕ) (before : List ℕ) where
-  pub followed_none : FollowedFrom rows width column base m m before before
-  followed_none = record { size = refl; sent = λ j t i l. absurd (omega arith); below = λ i l. refl; above = λ i l. refl }
+-- the words of a part follow a column
+pub followed_part : (rows : List ℕ) (width column base m k : ℕ) (before part : List ℕ) → k ≡ m → base + m ≤ length before
+    → length part ≡ length (mid_of base k before)
+    → ((j t : ℕ) → j < length (mid_of base k before) → In t (get_or part j 0) ↔ Image rows width column (get_or (mid_of base k before) j 0) t)
+    → FollowedFrom rows width column base m 0 before (put_mid base k before part)
+followed_part rows width column base m k before part same room long₀ h₀ = rw same (followed (rw same at long₀) (rw same at h₀))
+  where
+    mid_long : length (mid_of base m before) ≡ m
+    mid_long = search (rules, places)
 
-  pub followed_more : (k x : ℕ) (mid : List ℕ) → k < m → base + m ≤ length before → FollowedFrom rows width column base m (k + 1) before mid
-      → ((t : ℕ) → In t x ↔ Image rows width column (get_or mid (base + k) 0) t) → FollowedFrom rows width column base m k before (set mid (base + k) x)
-  followed_more k x mid l room h g =
-      let size = h.size in
-      record {
-        size = length-set mid (base + k) x ∙ h.size;
-        sent = λ j t i q. elim (ℕ_discrete j k) [
-          | yes e ↦ rw (e, get_or-set_same mid (base + k) x 0 (omega arith), ← (h.below (base + k) (omega arith))) (g t)
-          | no d ↦ let o : j ≢ k = d in rw (get_or-set_other mid (base + k) (base + j) x 0 (λ e. omega arith)) (h.sent j t (omega arith) q)
-        ];
-        below = λ i q. get_or-set_other mid (base + k) i x 0 (λ e. omega arith) ∙ h.below i (omega arith);
-        above = λ i q. get_or-set_other mid (base + k) i x 0 (λ e. omega arith) ∙ h.above i q;
-      }
+    mid : (j : ℕ) → j < m → get_or (mid_of base m before) j 0 ≡ get_or before (base + j) 0
+    mid j l = search (rules, places)
+
+    followed : length part ≡ length (mid_of base m before)
+        → ((j t : ℕ) → j < length (mid_of base m before) → In t (get_or part j 0) ↔ Image rows width column (get_or (mid_of base m before) j 0) t)
+        → FollowedFrom rows width column base m 0 before (put_mid base m before part)
+    followed same_long h =
+        let long : length part ≡ m = same_long ∙ mid_long in
+        record {
+          size = size long;
+          sent = λ j t k l. rw (at long j l, ← (mid j l)) (h j t (omega (arith, mid_long)));
+          below = λ i l. below long i (omega arith);
+          above = λ i l. above long i l;
+        }
+      where
+        size : length part ≡ m → length (put_mid base m before part) ≡ length before
+        size long = search (rules, places)
+
+        at : length part ≡ m → (j : ℕ) → j < m → get_or (put_mid base m before part) (base + j) 0 ≡ get_or part j 0
+        at long j l = search (rules, places)
+
+        below : length part ≡ m → (i : ℕ) → i < base → get_or (put_mid base m before part) i 0 ≡ get_or before i 0
+        below long i l = search (rules, places)
+
+        above : length part ≡ m → (i : ℕ) → base + m ≤ i → get_or (put_mid base m before part) i 0 ≡ get_or before i 0
+        above long i l = search (rules, places)
 
 module _ (rows : List ℕ) (width c : ℕ) (line : List ℕ) (base n : ℕ) (before : List ℕ) where
   pub draws_none : DrawnFrom rows width c line base n n before before
@@ -180,58 +184,65 @@ module _ (rows : List ℕ) (width c : ℕ) (line : List ℕ) (base n : ℕ) (bef
             (λ j. s.1 ((h.taken w t i q).1 (⊎_elim inl (λ p. inr (d.1 p)) j))),
           )
 
+-- one lag less, as the code has it
+pub draws_step : (rows : List ℕ) (width c : ℕ) (line : List ℕ) (base n : ℕ) (before mid : List ℕ) (k x a at place : ℕ) → k < n → base + n ≤ length before
+    → a ≡ get_or line (base + k) 0 → at ≡ base + k + 1 → place ≡ base + k → DrawnFrom rows width c line base n (k + 1) before mid
+    → ((t : ℕ) → In t x ↔ Drawn rows width a c mid at t) → DrawnFrom rows width c line base n k before (set mid place (bit_or (get_or mid place 0) x))
+draws_step rows width c line base n before mid k x a at place l room ea eat ep h g =
+    rw ep (draws_more rows width c line base n before k x mid l room h (rw (ea, eat) at g))
+
 -- THE TALLY
 
-module _ (words : List ℕ) (base : ℕ) where
-  pub all_none : (s : ℕ) → In s 0 ↔ Within words base 0 s
-  all_none s = ((λ i. absurd (not_in_zero s i)), (λ w. absurd (omega (arith, w.few))))
+-- what stands in a part of the words, stands in the words
+module _ (words part : List ℕ) (base m : ℕ) (same : (j : ℕ) → j < m → get_or part j 0 ≡ get_or words (base + j) 0) (long : length part ≡ m) where
+  within_part : (all : ℕ) → ((s : ℕ) → In s all ↔ AnyOf (length part) part s) → (s : ℕ) → In s all ↔ Within words base m s
+  within_part all h s = (
+    (λ i. let w = (h s).0 i in let l : w.word < m = omega (arith, w.small) in record { lost = w.word; few = l; member = (same_word s (same w.word l)).0 w.here }),
+    (λ w. (h s).1 (record { word = w.lost; small = omega (arith, w.few); here = (same_word s (same w.lost w.few)).1 w.member })),
+  )
 
-  pub all_more : (j all : ℕ) → ((s : ℕ) → In s all ↔ Within words base j s) → (s : ℕ) → In s (bit_or all (get_or words (base + j) 0)) ↔ Within words base (j + 1) s
-  all_more j all h s = ((λ i. ⊎_elim old new ((in_or s all (get_or words (base + j) 0)).0 i)), (λ w. (in_or s all (get_or words (base + j) 0)).1 (which w)))
-    where
-      old : In s all → Within words base (j + 1) s
-      old i = let w = (h s).0 i in record { lost = w.lost; few = omega (arith, w.few); member = w.member }
+  none_at : (j : ℕ) → j < m → get_or part j 0 ≡ 0 → HasLag words base j → ⊥
+  none_at j l z (q, i) = zero_none z q ((same_word q (same j l)).1 i)
 
-      new : In s (get_or words (base + j) 0) → Within words base (j + 1) s
-      new i = record { lost = j; few = omega arith; member = i }
+  some_at : (j : ℕ) → j < m → (get_or part j 0 ≡ 0 → ⊥) → HasLag words base j
+  some_at j l n = some_in (get_or words (base + j) 0) (λ z. n (same j l ∙ z))
 
-      which : Within words base (j + 1) s → In s all ⊎ In s (get_or words (base + j) 0)
-      which w =
-          elim (ℕ_discrete w.lost j) [
-            | yes e ↦ inr (rw e at w.member)
-            | no n ↦ let o : w.lost ≢ j = n in inl ((h s).1 (record { lost = w.lost; few = omega (arith, w.few); member = w.member }))
-          ]
-
-  -- no state at the lags below j; nor at those from j on
-  abbrev pub NoneBelow : ℕ → Type 0
-  NoneBelow j = (k : ℕ) → k < j → HasLag words base k → ⊥
-
-  pub none_more : (j : ℕ) → get_or words (base + j) 0 ≡ 0 → NoneBelow j → NoneBelow (j + 1)
-  none_more j z h k l i =
-      elim (ℕ_discrete k j) [
-        | yes e ↦ zero_none z i.0 (rw e at i.1)
-        | no n ↦ let o : k ≢ j = n in h k (omega arith) i
-      ]
-
-  pub least_at : (m j : ℕ) → j ≤ m → NoneBelow j → (j < m → get_or words (base + j) 0 ≡ 0 → ⊥) → LeastLag words base m j
-  least_at m j l h n = record { most = l; here = λ k. some_in (get_or words (base + j) 0) (n k); none_below = h }
-
-  abbrev pub NoneFrom : ℕ → ℕ → Type 0
-  NoneFrom j m = (k : ℕ) → j ≤ k → k < m → HasLag words base k → ⊥
-
-  pub none_back : (j m : ℕ) → 0 < j → get_or words (base + j - 1) 0 ≡ 0 → NoneFrom j m → NoneFrom (j - 1) m
-  none_back j m pos z h k l q i =
-      elim (ℕ_discrete k (j - 1)) [
-        | yes e ↦ let g : base + (j - 1) ≡ base + j - 1 = omega arith in zero_none z i.0 (rw (e, g) at i.1)
-        | no n ↦ let o : k ≢ j - 1 = n in h k (omega arith) q i
-      ]
-
-  pub past_at : (m j : ℕ) → j ≤ m → NoneFrom j m → (0 < j → get_or words (base + j - 1) 0 ≡ 0 → ⊥) → PastLags words base m j
-  past_at m j l h n =
+  spanned : (l : Lags) → Found part l → Spanned words base m l
+  spanned l f =
+      let w : l.most < m = omega (arith, f.within) in
+      let le : l.least ≤ l.most = ⊎_elim (λ a. absurd (f.most (f.below l.most a))) (λ a. a) (lt_or_ge l.most l.least) in
       record {
-        most = l;
-        here = λ k. let g : base + j - 1 ≡ base + (j - 1) = omega arith in some_in (get_or words (base + (j - 1)) 0) (λ z. n k (rw g z));
-        none_above = h;
+        within = w;
+        least = some_at l.least (omega arith) f.least;
+        below = λ j a. none_at j (omega arith) (f.below j a);
+        most = some_at l.most w f.most;
+        above = λ j a b. none_at j b (f.above j a (omega arith));
+      }
+
+  lags_part : (o : Option Lags) → MatchOption o (EachIndex part (λ j. slice_index part j ≡ 0)) (Found part)
+      → MatchOption o ((j : ℕ) → j < m → HasLag words base j → ⊥) (Spanned words base m)
+  lags_part None h = λ j l. none_at j l (h j (omega arith))
+  lags_part (Some l) h = spanned l h
+
+  pub tallied : (states : ℕ) (lags : Option Lags) → ((s : ℕ) → In s states ↔ AnyOf (length part) part s)
+      → MatchOption lags (EachIndex part (λ j. slice_index part j ≡ 0)) (Found part) → Tallied words base m (record { states = states; lags = lags })
+  tallied states lags s h = record { states = within_part states s; lags = lags_part lags h }
+
+-- the lags of a tally are small, and there is nothing past them
+module _ (words : List ℕ) (base m : ℕ) where
+  pub small_lags : (lags : Option Lags) → m ≤ 40 → MatchOption lags ((j : ℕ) → j < m → HasLag words base j → ⊥) (Spanned words base m) → SmallLags lags
+  small_lags None l h = tt
+  small_lags (Some s) l h =
+      ⊎_elim (λ a. absurd (h.below s.most a h.most)) (λ a. (omega (arith, h.within), omega (arith, h.within))) (lt_or_ge s.most s.least)
+
+  pub past_lags : (lags : Option Lags) → MatchOption lags ((j : ℕ) → j < m → HasLag words base j → ⊥) (Spanned words base m)
+      → PastLags words base m (past_of lags)
+  past_lags None h = record { most = omega arith; here = λ l. absurd (omega arith); none_above = λ j _ l. h j l }
+  past_lags (Some s) h =
+      record {
+        most = let w = h.within in omega arith;
+        here = λ _. let z : s.most + 1 - 1 ≡ s.most = omega arith in rw z h.most;
+        none_above = λ j a b. h.above j (omega arith) b;
       }
 
 -- NOTHING ABOVE

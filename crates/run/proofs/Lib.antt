@@ -1,6 +1,6 @@
 pub mod Laws
-mod Columns
-mod Lags
+pub mod Columns
+pub mod Lags
 mod Moves
 mod Lines
 mod Passing

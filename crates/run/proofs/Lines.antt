@@ -1,20 +1,19 @@
 -- The line of a tally is the line of the set that its words stand for. Assumes nothing.
-use mathlib.Core.Path.{◌≡◌, refl, ◌∙◌}
-use mathlib.Core.Bool.{Bool, true, false}
+use mathlib.Core.Path.{◌≡◌, refl, sym, ◌∙◌}
 use mathlib.Core.List.{List}
-use mathlib.Core.Logic.{◌↔◌, ◌≢◌, ⊎_elim}
+use mathlib.Core.Logic.{◌↔◌, ⊎_elim}
 use Prim.Native.Nat.{ℕ, ◌+◌, ◌-◌, ◌*◌, ◌≤◌, ◌<◌, min}
 use native.Mathlib.Omega.{arith}
-use lib.Dec.{eqb}
 use lib.ListN.{get_or}
-use borrow.Author.Tests.{eqb-true, eqb-false}
 use Rattle.model.specs.Model.{Config, cfg, Set}
 use Rattle.model.proofs.Flags.{lt_or_ge}
 use Rattle.states.specs.In.{In}
 use Rattle.states.proofs.Member.{not_in_zero}
 use Rattle.run.specs.declared.lag.Tally.{Tally}
-use Rattle.run.specs.Lag.{Lagged, HasLag, Tallied, from_least, from_most, line_of}
-use Rattle.run.specs.Run.{Lowest, Highest, StateOf, WaitingOf, RunOf, Line, Put}
+use Rattle.run.specs.declared.lag.Lags.{Lags}
+use Rattle.run.specs.Lag.{Lagged, HasLag, Spanned, Tallied, figures, line_of}
+use Rattle.run.specs.Run.{Lowest, Highest, StateOf, WaitingOf, RunOf, number, Line, Put}
+use Rattle.std.specs.Prelude.{Option, Some, None, MatchOption, ◌++◌}
 use Rattle.run.specs.Trace.{empty_line, Emptied}
 
 module _ (words : List ℕ) (base n c : ℕ) (pos : 0 < c) (t : Tally) (tally : Tallied words base (n + c) t) where
@@ -32,93 +31,95 @@ module _ (words : List ℕ) (base n c : ℕ) (pos : 0 < c) (t : Tally) (tally : 
     (λ (x, y, e). (tally.states q).1 (record { lost = x.waiting + x.run; few = omega (arith, y.room, y.few); member = rw e at y.member })),
   )
 
-  -- where the greatest lag is, and the least; the lags of members lie between
-  module _ (some : 0 < t.past) where
-    most_lag : HasLag words base (t.past - 1)
-    most_lag = tally.past.here some
+  -- with a lag there are members, whose lags lie between the least and the greatest
+  module _ (l : Lags) (spanned : Spanned words base (n + c) l) where
+    few : l.least < n + c
+    few = ⊎_elim (λ a. absurd (spanned.below l.most a spanned.most)) (λ a. omega (arith, spanned.within)) (lt_or_ge l.most l.least)
 
-    least_lag : HasLag words base t.least
-    least_lag =
-        ⊎_elim (λ l. tally.least.here l)
-        (λ l. absurd (tally.least.none_below (t.past - 1) (omega (arith, tally.past.most)) most_lag)) (lt_or_ge t.least (n + c))
+    low : (x : Config ℕ) → Lagged words base n c x → l.least ≤ x.waiting + x.run
+    low x y = ⊎_elim (λ a. absurd (spanned.below (x.waiting + x.run) a (x.state, y.member))) (λ a. a) (lt_or_ge (x.waiting + x.run) l.least)
 
-    least_few : t.least < n + c
-    least_few = ⊎_elim (λ l. l) (λ l. absurd (tally.least.none_below (t.past - 1) (omega (arith, tally.past.most)) most_lag)) (lt_or_ge t.least (n + c))
+    high : (x : Config ℕ) → Lagged words base n c x → x.waiting + x.run ≤ l.most
+    high x y =
+        ⊎_elim (λ a. absurd (spanned.above (x.waiting + x.run) a (omega (arith, y.room, y.few)) (x.state, y.member))) (λ a. a)
+        (lt_or_ge l.most (x.waiting + x.run))
 
-  low : (x : Config ℕ) → Lagged words base n c x → t.least ≤ x.waiting + x.run
-  low x y = ⊎_elim (λ l. absurd (tally.least.none_below (x.waiting + x.run) l (x.state, y.member))) (λ l. l) (lt_or_ge (x.waiting + x.run) t.least)
+    -- a member of this lag, of which so many wait
+    at_least : (w : ℕ) → w ≤ n → l.least - w < c → w ≤ l.least → Lagged words base n c (cfg spanned.least.0 w (l.least - w))
+    at_least w a b d = split spanned.least.0 w (l.least - w) l.least a b (omega arith) spanned.least.1
 
-  high : (x : Config ℕ) → Lagged words base n c x → x.waiting + x.run < t.past
-  high x y =
-      ⊎_elim (λ l. l) (λ l. absurd (tally.past.none_above (x.waiting + x.run) l (omega (arith, y.room, y.few)) (x.state, y.member))) (lt_or_ge (x.waiting + x.run) t.past)
+    at_most : (w : ℕ) → w ≤ n → l.most - w < c → w ≤ l.most → Lagged words base n c (cfg spanned.most.0 w (l.most - w))
+    at_most w a b d = split spanned.most.0 w (l.most - w) l.most a b (omega arith) spanned.most.1
 
-  -- with no lag there is no member
-  empty : t.past ≡ 0 → (x : Config ℕ) → Lagged words base n c x → ⊥
-  empty z x y = omega (arith, high x y)
+    lowest : (of : Config ℕ → ℕ) (x : Config ℕ) → Lagged words base n c x → ((y : Config ℕ) → Lagged words base n c y → of x ≤ of y)
+        → Lowest (λ k. (y : Config ℕ) × Lagged words base n c y × (of y ≡ k)) (of x)
+    lowest of x m le = record { none = λ h. absurd (h (of x) (x, m, refl)); some = λ k (y, i, e). ((x, m, refl), rw (sym e) (le y i)) }
 
-  pub least_waiting_is : (b : Bool) → eqb t.past 0 ≡ b → Lowest (WaitingOf (Lagged words base n c)) (from_least b t.least (c - 1))
-  least_waiting_is true e = record { none = λ h. refl; some = λ k (x, y, d). absurd (empty (eqb-true t.past 0 e) x y) }
-  least_waiting_is false e =
-      let some : 0 < t.past = let z : t.past ≢ 0 = eqb-false t.past 0 e in omega arith in
-      let (q, m) = least_lag some in
-      let l = least_few some in
-      let at = split q (t.least - (c - 1)) (t.least - (t.least - (c - 1))) t.least (omega arith) (omega arith) (omega arith) m in
+    highest : (of : Config ℕ → ℕ) (x : Config ℕ) → Lagged words base n c x → ((y : Config ℕ) → Lagged words base n c y → of y ≤ of x)
+        → Highest (λ k. (y : Config ℕ) × Lagged words base n c y × (of y ≡ k)) (of x)
+    highest of x m le = record { none = λ h. absurd (h (of x) (x, m, refl)); some = λ k (y, i, e). ((x, m, refl), rw (sym e) (le y i)) }
+
+    least_waiting : Lowest (WaitingOf (Lagged words base n c)) (l.least - (c - 1))
+    least_waiting =
+        let f = few in
+        lowest (λ x. x.waiting) (cfg spanned.least.0 (l.least - (c - 1)) (l.least - (l.least - (c - 1))))
+        (at_least (l.least - (c - 1)) (omega arith) (omega arith) (omega arith)) (λ y i. omega (arith, low y i, i.few))
+
+    most_waiting : Highest (WaitingOf (Lagged words base n c)) (min l.most n)
+    most_waiting =
+        let f = spanned.within in
+        highest (λ x. x.waiting) (cfg spanned.most.0 (min l.most n) (l.most - min l.most n))
+        (at_most (min l.most n) (omega arith) (omega arith) (omega arith)) (λ y i. omega (arith, high y i, i.room))
+
+    least_run : Lowest (RunOf (Lagged words base n c)) (l.least - n)
+    least_run =
+        let f = few in
+        let e : l.least - (l.least - (l.least - n)) ≡ l.least - n = omega arith in
+        rw e at (lowest (λ x. x.run) (cfg spanned.least.0 (l.least - (l.least - n)) (l.least - (l.least - (l.least - n))))
+        (at_least (l.least - (l.least - n)) (omega arith) (omega arith) (omega arith)) (λ y i. omega (arith, low y i, i.room)))
+
+    most_run : Highest (RunOf (Lagged words base n c)) (min l.most (c - 1))
+    most_run =
+        let f = spanned.within in
+        let e : l.most - (l.most - min l.most (c - 1)) ≡ min l.most (c - 1) = omega arith in
+        rw e at (highest (λ x. x.run) (cfg spanned.most.0 (l.most - min l.most (c - 1)) (l.most - (l.most - min l.most (c - 1))))
+        (at_most (l.most - min l.most (c - 1)) (omega arith) (omega arith) (omega arith)) (λ y i. omega (arith, high y i, i.few)))
+
+  -- the figures of the lags are those of the set
+  line_by : (lags : Option Lags) → MatchOption lags ((j : ℕ) → j < n + c → HasLag words base j → ⊥) (Spanned words base (n + c))
+      → Line (Lagged words base n c) (number t.states ++ figures lags n c)
+  line_by None none =
+      let empty : (x : Config ℕ) → Lagged words base n c x → ⊥ = λ x y. none (x.waiting + x.run) (omega (arith, y.room, y.few)) (x.state, y.member) in
       record {
-        none = λ h. absurd (h (t.least - (c - 1)) (cfg q (t.least - (c - 1)) (t.least - (t.least - (c - 1))), at, refl));
-        some = λ k (x, y, d). ((cfg q (t.least - (c - 1)) (t.least - (t.least - (c - 1))), at, refl), omega (arith, low x y, y.few));
+        states = t.states;
+        least_waiting = 255;
+        most_waiting = 255;
+        least_run = 255;
+        most_run = 255;
+        states_are = states_are;
+        least_waiting_is = record { none = λ h. refl; some = λ k (x, y, e). absurd (empty x y) };
+        most_waiting_is = record { none = λ h. refl; some = λ k (x, y, e). absurd (empty x y) };
+        least_run_is = record { none = λ h. refl; some = λ k (x, y, e). absurd (empty x y) };
+        most_run_is = record { none = λ h. refl; some = λ k (x, y, e). absurd (empty x y) };
+        bytes_are = refl;
       }
-
-  pub most_waiting_is : (b : Bool) → eqb t.past 0 ≡ b → Highest (WaitingOf (Lagged words base n c)) (from_most b (t.past - 1) n)
-  most_waiting_is true e = record { none = λ h. refl; some = λ k (x, y, d). absurd (empty (eqb-true t.past 0 e) x y) }
-  most_waiting_is false e =
-      let some : 0 < t.past = let z : t.past ≢ 0 = eqb-false t.past 0 e in omega arith in
-      let (q, m) = most_lag some in
-      let l = tally.past.most in
-      let at = shared q (t.past - 1) (omega arith) m in
+  line_by (Some l) s =
       record {
-        none = λ h. absurd (h (min (t.past - 1) n) (cfg q (min (t.past - 1) n) (t.past - 1 - min (t.past - 1) n), at, refl));
-        some = λ k (x, y, d). ((cfg q (min (t.past - 1) n) (t.past - 1 - min (t.past - 1) n), at, refl), omega (arith, high x y, y.room));
-      }
-
-  pub least_run_is : (b : Bool) → eqb t.past 0 ≡ b → Lowest (RunOf (Lagged words base n c)) (from_least b t.least n)
-  least_run_is true e = record { none = λ h. refl; some = λ k (x, y, d). absurd (empty (eqb-true t.past 0 e) x y) }
-  least_run_is false e =
-      let some : 0 < t.past = let z : t.past ≢ 0 = eqb-false t.past 0 e in omega arith in
-      let (q, m) = least_lag some in
-      let l = least_few some in
-      let at = split q (t.least - (t.least - n)) (t.least - n) t.least (omega arith) (omega arith) (omega arith) m in
-      record {
-        none = λ h. absurd (h (t.least - n) (cfg q (t.least - (t.least - n)) (t.least - n), at, refl));
-        some = λ k (x, y, d). ((cfg q (t.least - (t.least - n)) (t.least - n), at, refl), omega (arith, low x y, y.room));
-      }
-
-  pub most_run_is : (b : Bool) → eqb t.past 0 ≡ b → Highest (RunOf (Lagged words base n c)) (from_most b (t.past - 1) (c - 1))
-  most_run_is true e = record { none = λ h. refl; some = λ k (x, y, d). absurd (empty (eqb-true t.past 0 e) x y) }
-  most_run_is false e =
-      let some : 0 < t.past = let z : t.past ≢ 0 = eqb-false t.past 0 e in omega arith in
-      let (q, m) = most_lag some in
-      let l = tally.past.most in
-      let at = split q (t.past - 1 - min (t.past - 1) (c - 1)) (min (t.past - 1) (c - 1)) (t.past - 1) (omega arith) (omega arith) (omega arith) m in
-      record {
-        none = λ h. absurd (h (min (t.past - 1) (c - 1)) (cfg q (t.past - 1 - min (t.past - 1) (c - 1)) (min (t.past - 1) (c - 1)), at, refl));
-        some = λ k (x, y, d). ((cfg q (t.past - 1 - min (t.past - 1) (c - 1)) (min (t.past - 1) (c - 1)), at, refl), omega (arith, high x y, y.few));
+        states = t.states;
+        least_waiting = l.least - (c - 1);
+        most_waiting = min l.most n;
+        least_run = l.least - n;
+        most_run = min l.most (c - 1);
+        states_are = states_are;
+        least_waiting_is = least_waiting l s;
+        most_waiting_is = most_waiting l s;
+        least_run_is = least_run l s;
+        most_run_is = most_run l s;
+        bytes_are = refl;
       }
 
   pub is_line : Line (Lagged words base n c) (line_of t n c)
-  is_line =
-      record {
-        states = t.states;
-        least_waiting = from_least (eqb t.past 0) t.least (c - 1);
-        most_waiting = from_most (eqb t.past 0) (t.past - 1) n;
-        least_run = from_least (eqb t.past 0) t.least n;
-        most_run = from_most (eqb t.past 0) (t.past - 1) (c - 1);
-        states_are = states_are;
-        least_waiting_is = least_waiting_is (eqb t.past 0) refl;
-        most_waiting_is = most_waiting_is (eqb t.past 0) refl;
-        least_run_is = least_run_is (eqb t.past 0) refl;
-        most_run_is = most_run_is (eqb t.past 0) refl;
-        bytes_are = refl;
-      }
+  is_line = line_by t.lags tally.lags
 
 -- NOTHING
 

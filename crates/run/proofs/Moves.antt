@@ -1,8 +1,8 @@
 -- What an event does to the words by lag is what the model does to the plausible set. Assumes nothing.
+use Rattle.std.specs.Prelude.{Some, None}
 use mathlib.Core.Path.{◌≡◌, refl, sym, ◌∙◌}
 use mathlib.Core.List.{List, [], ◌∷◌, ◌++◌, append-nil}
 use mathlib.Core.Logic.{◌↔◌, ◌⊎◌, inl, inr, ⊎_elim}
-use mathlib.Core.Option.{some, none}
 use Prim.Native.Nat.{ℕ, zero, suc, ◌+◌, ◌-◌, ◌*◌, ◌≤◌, ◌<◌, min}
 use native.Mathlib.Nat.{mul-le-mul_right}
 use native.Mathlib.Omega.{arith}
@@ -32,16 +32,16 @@ module _ (rows : List ℕ) (s i o : ℕ) (valid : Valid (table_of rows s i o)) w
   unfolding byte
   packed q k l m = refl
 
-  pub entry_of : (q k t : ℕ) → k < i + o → Leads rows (i + o) k q t → entry (table_of rows s i o) q k ≡ some t
+  pub entry_of : (q k t : ℕ) → k < i + o → Leads rows (i + o) k q t → entry (table_of rows s i o) q k ≡ Some t
   entry_of q k t l d =
       ⊎_elim (λ h. entries.of_leads (table_of rows s i o) rows valid packed q k t h l d)
       (λ h. absurd (omega (arith, past q k h, d.byte, d.state))) (lt_or_ge q s)
 
-  pub leads_of : (q k t : ℕ) → k < i + o → entry (table_of rows s i o) q k ≡ some t → Leads rows (i + o) k q t
+  pub leads_of : (q k t : ℕ) → k < i + o → entry (table_of rows s i o) q k ≡ Some t → Leads rows (i + o) k q t
   unfolding entry byte
   leads_of q k t l e =
       ⊎_elim (λ h. entries.leads (table_of rows s i o) rows valid packed q k t h l e)
-      (λ h. absurd (let z = past q k h in let w : entry (table_of rows s i o) q k ≡ none = rw z in let y : ◌≡◌ {A = ℕ} 0 1 = cc in omega arith)) (lt_or_ge q s)
+      (λ h. absurd (let z = past q k h in let w : entry (table_of rows s i o) q k ≡ None = rw z in let y : ◌≡◌ {A = ℕ} 0 1 = cc in omega arith)) (lt_or_ge q s)
 
 -- THE LINE
 
@@ -70,7 +70,7 @@ module _ (rows : List ℕ) (wide i B c a n n' base base' : ℕ) (h words line wo
 
 -- a plausible set is closed under takes
 pub take_closed : (T : Table) (B c : ℕ) (t : List Event) (q s v lost : ℕ) → Valid T → Bounded B c → Plausible (box T) B c t (cfg q (suc v) lost)
-    → entry T q (oldest (suc v) (inputs_of t)) ≡ some s → Plausible (box T) B c t (cfg s v 0)
+    → entry T q (oldest (suc v) (inputs_of t)) ≡ Some s → Plausible (box T) B c t (cfg s v 0)
 take_closed T B c t q s v lost valid bounded p e =
     let h = inputs_of t in
     let f = contained T B c t (cfg q (suc v) lost) valid bounded p in
@@ -137,7 +137,7 @@ module _ (rows : List ℕ) (s i o B c : ℕ) (valid : Valid (table_of rows s i o
     one_waits = omega (arith, bounded.waiting.0)
 
     -- the newest is at the head of a line of one
-    head_taken : (w q q' : ℕ) → w ≡ 0 → entry (table_of rows s i o) q a ≡ some q' → entry (table_of rows s i o) q (oldest (suc w) (inputs_of t ++ (a ∷ []))) ≡ some q'
+    head_taken : (w q q' : ℕ) → w ≡ 0 → entry (table_of rows s i o) q a ≡ Some q' → entry (table_of rows s i o) q (oldest (suc w) (inputs_of t ++ (a ∷ []))) ≡ Some q'
     head_taken w q q' e f = rw (e, oldest_new (inputs_of t) a) f
 
     only : (x : Config ℕ) (w r : ℕ) → x.waiting ≡ w → x.run ≡ r → Lagged words' base' n' c x
@@ -182,10 +182,10 @@ module _ (rows : List ℕ) (s i o B c : ℕ) (valid : Valid (table_of rows s i o
     taken_in x zero ew k =
         let m = k.member in
         let room = m.room in
-        let none = k.none in
+        let None = k.none in
         let e : base' + (x.waiting + x.run) ≡ base' = omega arith in
         let g : base' + (suc x.waiting + k.lost) ≡ suc base' + k.lost = omega arith in
-        let f : entry (table_of rows s i o) k.from a ≡ some x.state = rw (ew, oldest_new (inputs_of t) a) at k.follows in
+        let f : entry (table_of rows s i o) k.from a ≡ Some x.state = rw (ew, oldest_new (inputs_of t) a) at k.follows in
         record {
           room = omega arith;
           few = omega (arith, bounded.losses.0);
@@ -198,14 +198,14 @@ module _ (rows : List ℕ) (s i o B c : ℕ) (valid : Valid (table_of rows s i o
     taken_in x (suc v) ew k =
         let m = k.member in
         let room = m.room in
-        let none = k.none in
+        let None = k.none in
         let p = (plausible (cfg k.from x.waiting k.lost)).0 (to_old k.from x.waiting k.lost m) in
         let p₁ : Plausible (box (table_of rows s i o)) B c t (cfg k.from (suc v) k.lost) = rw ew at p in
         let back : oldest (suc (suc v)) (inputs_of t ++ (a ∷ [])) ≡ oldest (suc v) (inputs_of t) = oldest_back (inputs_of t) a v (fit (cfg k.from (suc v) k.lost) p₁) in
-        let f : entry (table_of rows s i o) k.from (oldest (suc v) (inputs_of t)) ≡ some x.state = rw (ew, back) at k.follows in
+        let f : entry (table_of rows s i o) k.from (oldest (suc v) (inputs_of t)) ≡ Some x.state = rw (ew, back) at k.follows in
         let old = (plausible (cfg x.state v 0)).1 (take_closed (table_of rows s i o) B c t k.from x.state v k.lost valid bounded p₁ f) in
         let new = to_new x.state v 0 (omega (arith, count)) old in
-        record { room = omega arith; few = omega (arith, bounded.losses.0); member = rw (ew, none) new.member }
+        record { room = omega arith; few = omega (arith, bounded.losses.0); member = rw (ew, None) new.member }
 
     pub input_plausible : (x : Config ℕ) → Lagged words' base' n' c x ↔ Plausible (box (table_of rows s i o)) B c (t ++ (input a ∷ [])) x
     input_plausible =
@@ -243,10 +243,10 @@ module _ (rows : List ℕ) (s i o B c : ℕ) (valid : Valid (table_of rows s i o
         }
 
     -- the head of a line, as the model has it and as the line has it
-    from_line : (q q' w : ℕ) → w < n → entry (table_of rows s i o) q (get_or line (base + w) 0) ≡ some q' → entry (table_of rows s i o) q (oldest (suc w) (inputs_of t ++ [])) ≡ some q'
+    from_line : (q q' w : ℕ) → w < n → entry (table_of rows s i o) q (get_or line (base + w) 0) ≡ Some q' → entry (table_of rows s i o) q (oldest (suc w) (inputs_of t ++ [])) ≡ Some q'
     from_line q q' w l e = rw (append-nil (inputs_of t), ← (heads w l)) e
 
-    to_line : (q q' w : ℕ) → w < n → entry (table_of rows s i o) q (oldest (suc w) (inputs_of t ++ [])) ≡ some q' → entry (table_of rows s i o) q (get_or line (base + w) 0) ≡ some q'
+    to_line : (q q' w : ℕ) → w < n → entry (table_of rows s i o) q (oldest (suc w) (inputs_of t ++ [])) ≡ Some q' → entry (table_of rows s i o) q (get_or line (base + w) 0) ≡ Some q'
     to_line q q' w l e = rw (heads w l) (rw (append-nil (inputs_of t)) at e)
 
     only_out : (x : Config ℕ) (r : ℕ) → x.run ≡ r → Lagged words' base n c x
@@ -290,7 +290,7 @@ module _ (rows : List ℕ) (s i o B c : ℕ) (valid : Valid (table_of rows s i o
               };
           taken = λ x k. let m = k.member in
               let l : x.waiting < n = m.room in
-              let none = k.none in
+              let None = k.none in
               let z : base + (x.waiting + x.run) ≡ base + x.waiting = omega arith in
               let g : base + (suc x.waiting + k.lost) ≡ base + x.waiting + 1 + k.lost = omega arith in
               record {

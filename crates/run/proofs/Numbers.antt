@@ -1,4 +1,5 @@
 -- Which number a run tells, and when: the laws of specs/Numbers.antt. Assumes nothing.
+use Rattle.std.specs.Prelude.{Ok}
 use mathlib.Core.Path.{◌≡◌, refl, sym}
 use mathlib.Core.Bool.{true, false}
 use mathlib.Core.List.{List, [], ◌∷◌, ◌++◌}
@@ -15,8 +16,7 @@ use Rattle.table.specs.Bytes.{table_of}
 use Rattle.table.specs.Numbers.{Tells, Alone, Among}
 use Rattle.table.specs.Tests.{events_test}
 use Rattle.table.specs.declared.answer.Refusal.TheVariants as refusal
-use Rattle.table.specs.declared.answer.Test.{Test}
-use Rattle.table.specs.declared.answer.Test.TheVariants.{Passed}
+use Rattle.table.specs.Test.{Test}
 use Rattle.table.proofs.Laws.{must_passes, index_told, events_among, trace_passes}
 use Rattle.table.proofs.Numbers.{listed, never, own_number, must_among, passed_among, passed_never, events_give, buffer_gives}
 use Rattle.session.specs.Open.{then, opening}
@@ -37,23 +37,23 @@ at_most n m = (leb-true n m, le-leb n m)
 
 -- the number of events, which tells 9 alone
 module _ (n : ℕ) where
-  few : limit_test n ≡ Passed ↔ (n ≤ most_events)
+  few : limit_test n ≡ Ok tt ↔ (n ≤ most_events)
   few =
-      let (to, from) = must_passes (leb n most_events) (refusal.Events n) Passed in
+      let (to, from) = must_passes (leb n most_events) (refusal.Events n) (Ok tt) in
       (λ e. leb-true n most_events (to e).0, λ l. from (le-leb n most_events l, refl))
 
   many_told : (p q : ℕ) → Tells (limit_test n) 9 p q ↔ ((n ≤ most_events → ⊥) × Alone n p q)
-  many_told p q = own_number (at_most n most_events) (events_give n) Passed (passed_never 9)
+  many_told p q = own_number (at_most n most_events) (events_give n) (Ok tt) (passed_never 9)
 
   many_among : Among (9 ∷ []) (limit_test n)
-  many_among = must_among (at_most n most_events) (events_give n) Passed passed_among
+  many_among = must_among (at_most n most_events) (events_give n) (Ok tt) passed_among
 
   module _ (room : ℕ) where
     short_told : (p q : ℕ) → Tells (buffer_test n room) 10 p q ↔ ((12 * n ≤ room → ⊥) × Alone (12 * n) p q)
-    short_told p q = own_number (at_most (12 * n) room) (buffer_gives (12 * n)) Passed (passed_never 10)
+    short_told p q = own_number (at_most (12 * n) room) (buffer_gives (12 * n)) (Ok tt) (passed_never 10)
 
     short_among : Among (10 ∷ []) (buffer_test n room)
-    short_among = must_among (at_most (12 * n) room) (buffer_gives (12 * n)) Passed passed_among
+    short_among = must_among (at_most (12 * n) room) (buffer_gives (12 * n)) (Ok tt) passed_among
 
 -- what follows the number of events, and what follows opening
 module _ (trace : List ℕ) (i o room : ℕ) where
@@ -87,7 +87,7 @@ module _ (trace : List ℕ) (i o room : ℕ) where
   seven p q =
       first_tells (events_test trace i o) (buffer_test (length trace) room) 7 p q (never 7 (10 ∷ []) (short_among (length trace) room) refl)
 
-  ten : (p q : ℕ) → Tells after_limit 10 p q ↔ ((events_test trace i o ≡ Passed) × Tells (buffer_test (length trace) room) 10 p q)
+  ten : (p q : ℕ) → Tells after_limit 10 p q ↔ ((events_test trace i o ≡ Ok tt) × Tells (buffer_test (length trace) room) 10 p q)
   unfolding after_limit
   ten p q =
       second_tells (events_test trace i o) (buffer_test (length trace) room) 10 p q (never 10 (7 ∷ []) (events_among trace i o) refl)

@@ -1,4 +1,5 @@
 -- Whole runs: one answer, and as if fed. Assumes nothing.
+use Rattle.std.specs.Prelude.{Option, Some, None, Ok, Err}
 use mathlib.Core.Path.{◌≡◌, refl, sym, ◌∙◌, ap}
 use mathlib.Core.List.{List, [], ◌∷◌, ◌++◌}
 use mathlib.Core.Logic.{◌↔◌, ◌⊎◌, inl, inr, ⊎_elim}
@@ -11,10 +12,8 @@ use Rattle.model.proofs.Flags.{lt_or_ge}
 use Rattle.model.proofs.Demands.{one_flag}
 use Rattle.table.specs.Bytes.{table_of}
 use Rattle.table.specs.declared.answer.Refusal.{Refusal}
-use Rattle.table.specs.declared.answer.Test.TheVariants.{Passed, Refused}
+use Rattle.table.specs.Test.{Test}
 use Rattle.states.proofs.Same.{in_ext, zero_none, zero_or_some}
-use Rattle.session.specs.declared.Flag.{Flag}
-use Rattle.session.specs.declared.Flag.TheVariants as flag
 use Rattle.session.specs.Sets.{Holds}
 use Rattle.session.specs.Session.{place_of}
 use Rattle.run.specs.Run.{Lowest, Highest, WaitingOf, RunOf, number, Line, RunTo, refused, ran}
@@ -78,13 +77,13 @@ one_line S l l' a b =
 
 -- ONE ANSWER
 
-pub one_place : (f g : Flag) → place_of f ≡ place_of g → f ≡ g
-one_place flag.None flag.None e = refl
-one_place flag.None (flag.At k) e = absurd (let z : ◌≡◌ {A = ℕ} 0 1 = cc in omega arith)
-one_place (flag.At k) flag.None e = absurd (let z : ◌≡◌ {A = ℕ} 0 1 = cc in omega arith)
-one_place (flag.At k) (flag.At l) e = let d : k ≡ l = cc in ap flag.At d
+pub one_place : (f g : Option ℕ) → place_of f ≡ place_of g → f ≡ g
+one_place None None e = refl
+one_place None (Some k) e = absurd (let z : ◌≡◌ {A = ℕ} 0 1 = cc in omega arith)
+one_place (Some k) None e = absurd (let z : ◌≡◌ {A = ℕ} 0 1 = cc in omega arith)
+one_place (Some k) (Some l) e = let d : k ≡ l = cc in ap Some d
 
-one_memory : (rows : List ℕ) (s i o B c : ℕ) (trace before after after' : List ℕ) (f f' : Flag) → RunTo rows s i o B c trace before after f → RunTo rows s i o B c trace before after' f' → after ≡ after'
+one_memory : (rows : List ℕ) (s i o B c : ℕ) (trace before after after' : List ℕ) (f f' : Option ℕ) → RunTo rows s i o B c trace before after f → RunTo rows s i o B c trace before after' f' → after ≡ after'
 one_memory rows s i o B c trace before after after' f f' r r' = ext_get_or 0 after after' (r.size ∙ sym r'.size) (λ p l. ⊎_elim (written p) (λ k. r.rest p k ∙ sym (r'.rest p k)) (lt_or_ge p (12 * length trace)))
   where
     written : (p : ℕ) → p < 12 * length trace → get_or after p 0 ≡ get_or after' p 0
@@ -98,19 +97,19 @@ one_memory rows s i o B c trace before after after' f f' r r' = ext_get_or 0 aft
         let same : line ≡ line' = one_line (Plausible (box (table_of rows s i o)) B c (events (take (suc (p / 12)) trace))) line line' a b in
         (rw e at (at (p % 12) q)) ∙ ap (λ (l : List ℕ). get_or l (p % 12) 0) same ∙ sym (rw e at (at' (p % 12) q))
 
-refused_passed : (r : Refusal) → Refused r ≡ Passed → ⊥
+refused_passed : (r : Refusal) → ◌≡◌ {A = Test} (Err r) (Ok tt) → ⊥
 refused_passed r e = let z : ◌≡◌ {A = ℕ} 0 1 = cc in omega arith
 
 -- Any two answers that a run may give are equal, and so is the memory that they leave.
 pub one_run : OneRun
 one_run rows s i o B c trace before r r' after after' (refused {r = x} e) (refused {r = y} e') =
     let d : x ≡ y = cc in
-    (ap (λ (z : Refusal). record { test = Refused z; flag = flag.None }) d, refl)
+    (ap (λ (z : Refusal). Err z) d, refl)
 one_run rows s i o B c trace before r r' after after' (refused {r = x} e) (ran e' t) = absurd (refused_passed x (sym e ∙ e'))
 one_run rows s i o B c trace before r r' after after' (ran e t) (refused {r = x} e') = absurd (refused_passed x (sym e' ∙ e))
 one_run rows s i o B c trace before r r' after after' (ran {f = f} e t) (ran {f = f'} e' t') =
     let d : f ≡ f' = one_place f f' (one_flag (box (table_of rows s i o)) B c (events trace) (place_of f) (place_of f') t.flag t'.flag) in
-    (ap (λ (g : Flag). record { test = Passed; flag = g }) d, one_memory rows s i o B c trace before after after' f f' t t')
+    (ap (λ (g : Option ℕ). Ok g) d, one_memory rows s i o B c trace before after after' f f' t t')
 
 -- AS IF FED
 

@@ -1,4 +1,5 @@
 -- What the bytes of a run say, and demand 3 of them. Assumes nothing.
+use Rattle.std.specs.Prelude.{None}
 use mathlib.Core.Path.{◌≡◌, refl, ◌∙◌, ap}
 use mathlib.Core.List.{List, [], ◌∷◌}
 use Prim.Native.Nat.{ℕ, suc, ◌*◌, ◌^◌, ◌≤◌, ◌<◌}
@@ -9,7 +10,6 @@ use Rattle.model.specs.Model.{box, events, Config, cfg, Set, Plausible}
 use Rattle.model.proofs.Demands.{contained, one_flag, allowing_more, never_convicts}
 use Rattle.table.specs.Bytes.{table_of}
 use Rattle.states.proofs.Same.{zero_none, some_in}
-use Rattle.session.specs.declared.Flag.TheVariants as flag
 use Rattle.session.specs.Session.{place_of}
 use Rattle.session.proofs.Laws.{opening_passes}
 use Rattle.run.specs.Run.{Lowest, Highest, eight, Line, At, refused, ran}
@@ -66,8 +66,8 @@ pub empty_trace : EmptyTrace
 empty_trace rows s i o B c before after r (refused e) = (refl, refl)
 empty_trace rows s i o B c before after r (ran {f = f} e t) = (
   ext_get_or 0 after before t.size (λ k l. t.rest k (omega arith)),
-  one_place f flag.None
-      (one_flag (box (table_of rows s i o)) B c [] (place_of f) (place_of flag.None) t.flag (λ j l. absurd (omega arith))),
+  one_place f None
+      (one_flag (box (table_of rows s i o)) B c [] (place_of f) (place_of None) t.flag (λ j l. absurd (omega arith))),
 )
 
 -- DEMAND 3

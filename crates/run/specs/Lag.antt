@@ -1,8 +1,9 @@
 -- The plausible set of a run, kept by lag: waiting + run, the inputs that came after the one last taken. Assumes nothing.
-use Rattle.std.specs.Prelude.{◌≡◌, Bool, true, false, List, [], ◌∷◌, ◌++◌, ◌↔◌, ◌⊎◌, ℕ, suc, ◌+◌, ◌-◌, ◌≤◌, ◌<◌, min, eqb, length, get_or}
+use Rattle.std.specs.Prelude.{◌≡◌, List, [], ◌∷◌, ◌++◌, ◌↔◌, ◌⊎◌, ℕ, suc, ◌+◌, ◌-◌, ◌≤◌, ◌<◌, min, length, get_or, Option, Some, None, IfSome, MatchOption}
 use Rattle.model.specs.Model.{Config}
 use Rattle.states.specs.In.{In}
 use Rattle.states.specs.Rows.{Leads, Image}
+use Rattle.run.specs.declared.lag.Lags.{Lags}
 use Rattle.run.specs.declared.lag.Tally.{Tally}
 use Rattle.run.specs.Run.{number}
 
@@ -28,12 +29,6 @@ pub record Drawn (rows : List ℕ) (width column c : ℕ) (words : List ℕ) (at
   pub leads : Leads rows width column from t
 
 -- AN INPUT
-
--- The first 40 of a list stand also from 64 on.
-pub record Copied (before after : List ℕ) : Type 0 where
-  pub size : length after ≡ length before
-  pub moved : (j : ℕ) → j < 40 → get_or after (64 + j) 0 ≡ get_or before j 0
-  pub below : (j : ℕ) → j < 64 → get_or after j 0 ≡ get_or before j 0
 
 -- The 40 places from the base on have what they had, and there is a place below it.
 pub record Based (base : ℕ) (words line : List ℕ) (base' : ℕ) (words' line' : List ℕ) : Type 0 where
@@ -83,38 +78,49 @@ pub record Went (rows : List ℕ) (width column c : ℕ) (line : List ℕ) (base
 abbrev pub HasLag : List ℕ → ℕ → ℕ → Type 0
 HasLag words base j = (q : ℕ) × In q (get_or words (base + j) 0)
 
--- r is the least of the m first lags that has a state, and m where none has.
-pub record LeastLag (words : List ℕ) (base m r : ℕ) : Type 0 where
-  pub most : r ≤ m
-  pub here : r < m → HasLag words base r
-  pub none_below : (j : ℕ) → j < r → HasLag words base j → ⊥
-
 -- r is one more than the greatest of the m first lags that has a state, and 0 where none has.
 pub record PastLags (words : List ℕ) (base m r : ℕ) : Type 0 where
   pub most : r ≤ m
   pub here : 0 < r → HasLag words base (r - 1)
   pub none_above : (j : ℕ) → r ≤ j → j < m → HasLag words base j → ⊥
 
+-- Of the words, this is the first that is not 0, and this the last.
+pub record Found (words : List ℕ) (l : Lags) : Type 0 where
+  pub within : l.most < length words
+  pub least : get_or words l.least 0 ≡ 0 → ⊥
+  pub below : (j : ℕ) → j < l.least → get_or words j 0 ≡ 0
+  pub most : get_or words l.most 0 ≡ 0 → ⊥
+  pub above : (j : ℕ) → l.most < j → j < length words → get_or words j 0 ≡ 0
+
+-- Of the m first lags, this is the least that has a state, and this the greatest.
+pub record Spanned (words : List ℕ) (base m : ℕ) (l : Lags) : Type 0 where
+  pub within : l.most < m
+  pub least : HasLag words base l.least
+  pub below : (j : ℕ) → j < l.least → HasLag words base j → ⊥
+  pub most : HasLag words base l.most
+  pub above : (j : ℕ) → l.most < j → j < m → HasLag words base j → ⊥
+
 pub record Tallied (words : List ℕ) (base m : ℕ) (t : Tally) : Type 0 where
   pub states : (q : ℕ) → In q t.states ↔ Within words base m q
-  pub least : LeastLag words base m t.least
-  pub past : PastLags words base m t.past
+  pub lags : MatchOption t.lags ((j : ℕ) → j < m → HasLag words base j → ⊥) (Spanned words base m)
+
+-- One more than the greatest lag, and 0 where there is none.
+abbrev pub past_of : Option Lags → ℕ
+past_of None = 0
+past_of (Some l) = l.most + 1
 
 -- THE LINE
 
--- Of a least lag x at least x less k, and of a greatest at most k. There is none where no lag has a state: 255 stands for that.
-abbrev pub from_least : Bool → ℕ → ℕ → ℕ
-from_least true x k = 255
-from_least false x k = x - k
+-- The lags, if any, fit a byte.
+abbrev pub SmallLags : Option Lags → Type 0
+SmallLags o = IfSome o (λ l. (l.least < 256) × (l.most < 256))
 
-abbrev pub from_most : Bool → ℕ → ℕ → ℕ
-from_most true x k = 255
-from_most false x k = min x k
+-- Of a lag at least what cannot be lost waits, and at least what cannot wait is lost; at most all of it waits, or is lost, within its
+-- bound. There is none where no lag has a state: 255 stands for that.
+abbrev pub figures : Option Lags → ℕ → ℕ → List ℕ
+figures None n c = 255 ∷ 255 ∷ 255 ∷ 255 ∷ []
+figures (Some l) n c = (l.least - (c - 1)) ∷ min l.most n ∷ (l.least - n) ∷ min l.most (c - 1) ∷ []
 
--- The line of a tally. Of a lag at least what cannot be lost waits, and at least what cannot wait is lost; at most all of it waits, or is
--- lost, within its bound.
+-- The line of a tally.
 abbrev pub line_of : Tally → ℕ → ℕ → List ℕ
-line_of t n c =
-    number t.states
-    ++ (from_least (eqb t.past 0) t.least (c - 1) ∷ from_most (eqb t.past 0) (t.past - 1) n
-    ∷ from_least (eqb t.past 0) t.least n ∷ from_most (eqb t.past 0) (t.past - 1) (c - 1) ∷ [])
+line_of t n c = number t.states ++ figures t.lags n c

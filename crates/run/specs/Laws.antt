@@ -1,16 +1,12 @@
 -- What is shown of whole runs, each under one sentence. proofs/Laws.antt proves them all. Assumes nothing.
-use Rattle.std.specs.Prelude.{◌≡◌, List, [], ◌++◌, ◌↔◌, ℕ, suc, ◌+◌, ◌*◌, ◌^◌, ◌≤◌, ◌<◌, length, get_or, take as first}
+use Rattle.std.specs.Prelude.{◌≡◌, List, [], ◌++◌, ◌↔◌, ℕ, suc, ◌+◌, ◌*◌, ◌^◌, ◌≤◌, ◌<◌, length, get_or, take as first, Option, None, Ok}
 use Rattle.model.specs.Limits.{most_events}
 use Rattle.model.specs.Model.{box, events, Set, Plausible, Empty}
 use Rattle.model.specs.Demands.{Slack, Later}
 use Rattle.table.specs.Bytes.{table_of, symbol_of}
-use Rattle.table.specs.declared.answer.Symbol.TheVariants.{Invalid}
-use Rattle.table.specs.declared.answer.Test.TheVariants.{Passed}
 use Rattle.states.specs.In.{In}
 use Rattle.session.specs.declared.Session.{Session}
-use Rattle.session.specs.declared.Flag.{Flag}
-use Rattle.session.specs.declared.Flag.TheVariants as flag
-use Rattle.run.specs.declared.Ran.{Ran}
+use Rattle.run.specs.Ran.{Ran, flag_of}
 use Rattle.session.specs.Sets.{Holds}
 use Rattle.session.specs.Open.{opening, begun}
 use Rattle.session.specs.Session.{place_of}
@@ -23,18 +19,18 @@ use Rattle.run.specs.Trace.{empty_line}
 -- A trace that a run takes under a table's counts: no longer than the limit, and of valid events.
 pub record GoodTrace (trace : List ℕ) (i o : ℕ) : Type 0 where
   pub few : length trace ≤ most_events
-  pub valid : (k : ℕ) → k < length trace → symbol_of (get_or trace k 0) i o ≡ Invalid → ⊥
+  pub valid : (k : ℕ) → k < length trace → symbol_of (get_or trace k 0) i o ≡ None → ⊥
 
 -- A run is refused exactly when its opening would be, its trace is not good, or its buffer is too short.
 abbrev pub RunPasses : Type 0
 RunPasses =
     (rows : List ℕ) (s i o B c : ℕ) (trace : List ℕ) (room : ℕ)
-    → run_test rows s i o B c trace room ≡ Passed ↔ ((opening rows s i o B c ≡ Passed) × GoodTrace trace i o × (12 * length trace ≤ room))
+    → run_test rows s i o B c trace room ≡ Ok tt ↔ ((opening rows s i o B c ≡ Ok tt) × GoodTrace trace i o × (12 * length trace ≤ room))
 
 -- Where all else is good, only the buffer decides.
 abbrev pub RoomDecides : Type 0
 RoomDecides =
-    (rows : List ℕ) (s i o B c : ℕ) (trace : List ℕ) (room : ℕ) → opening rows s i o B c ≡ Passed → GoodTrace trace i o
+    (rows : List ℕ) (s i o B c : ℕ) (trace : List ℕ) (room : ℕ) → opening rows s i o B c ≡ Ok tt → GoodTrace trace i o
     → run_test rows s i o B c trace room ≡ buffer_test (length trace) room
 
 -- THE RUN
@@ -50,13 +46,13 @@ OneRun =
     → Runs rows s i o B c trace before r' after' → (r ≡ r') × (after ≡ after')
 
 -- A run and feeding agree event by event: the bytes of event k are the line of the session fed so far; and so does the flag.
-pub record Agree (rows : List ℕ) (s i o B c : ℕ) (trace after : List ℕ) (f : Flag) : Type 0 where
+pub record Agree (rows : List ℕ) (s i o B c : ℕ) (trace after : List ℕ) (f : Option ℕ) : Type 0 where
   pub lines : (k : ℕ) (t : Session) → k < length trace → FedAll (begun rows s i o B c) (first (suc k) trace) t → (line : List ℕ) × Line (Holds t.set) line × At (12 * k) line after
   pub flag : (t : Session) → FedAll (begun rows s i o B c) trace t → t.flag ≡ f
 
 abbrev pub RunsAsFed : Type 0
 RunsAsFed =
-    (rows : List ℕ) (s i o B c : ℕ) (trace before after : List ℕ) (f : Flag) → opening rows s i o B c ≡ Passed
+    (rows : List ℕ) (s i o B c : ℕ) (trace before after : List ℕ) (f : Option ℕ) → opening rows s i o B c ≡ Ok tt
     → RunTo rows s i o B c trace before after f → Agree rows s i o B c trace after f
 
 -- THE BYTES WRITTEN
@@ -76,14 +72,14 @@ pub record Twelve (S : Set ℕ) (bytes : List ℕ) (place : ℕ) : Type 0 where
 -- The bytes of event k say the plausible set after k + 1 events.
 abbrev pub BytesSay : Type 0
 BytesSay =
-    (rows : List ℕ) (s i o B c : ℕ) (trace before after : List ℕ) (f : Flag) → opening rows s i o B c ≡ Passed
+    (rows : List ℕ) (s i o B c : ℕ) (trace before after : List ℕ) (f : Option ℕ) → opening rows s i o B c ≡ Ok tt
     → RunTo rows s i o B c trace before after f → (k : ℕ) → k < length trace
     → Twelve (Plausible (box (table_of rows s i o)) B c (events (first (suc k) trace))) after (12 * k)
 
 -- With an empty set, and with no other, the number is 0 and the four bytes are 255.
 abbrev pub EmptySet : Type 0
 EmptySet =
-    (rows : List ℕ) (s i o B c : ℕ) (trace before after : List ℕ) (f : Flag) → opening rows s i o B c ≡ Passed
+    (rows : List ℕ) (s i o B c : ℕ) (trace before after : List ℕ) (f : Option ℕ) → opening rows s i o B c ≡ Ok tt
     → RunTo rows s i o B c trace before after f → (k : ℕ) → k < length trace
     → Empty (box (table_of rows s i o)) B c (events (first (suc k) trace)) ↔ At (12 * k) empty_line after
 
@@ -91,7 +87,7 @@ EmptySet =
 abbrev pub EmptyTrace : Type 0
 EmptyTrace =
     (rows : List ℕ) (s i o B c : ℕ) (before after : List ℕ) (r : Ran) → Runs rows s i o B c [] before r after
-    → (after ≡ before) × (r.flag ≡ flag.None)
+    → (after ≡ before) × (flag_of r ≡ None)
 
 -- DEMAND 3 FOR RUNS
 
@@ -111,8 +107,8 @@ pub record KeptBytes (j : ℕ) (after : List ℕ) (k : ℕ) (after' : List ℕ) 
 -- Demand 3 for runs, of the bytes written and of the flag told.
 abbrev pub RunsAllowMore : Type 0
 RunsAllowMore =
-    (rows rows' : List ℕ) (s i o s' i' o' B c B' c' j : ℕ) (trace trace' before before' after after' : List ℕ) (f f' : Flag)
-    → opening rows s i o B c ≡ Passed → opening rows' s' i' o' B' c' ≡ Passed → RunTo rows s i o B c trace before after f
+    (rows rows' : List ℕ) (s i o s' i' o' B c B' c' j : ℕ) (trace trace' before before' after after' : List ℕ) (f f' : Option ℕ)
+    → opening rows s i o B c ≡ Ok tt → opening rows' s' i' o' B' c' ≡ Ok tt → RunTo rows s i o B c trace before after f
     → RunTo rows' s' i' o' B' c' trace' before' after' f'
     → ((k k' : ℕ) → k < length trace → k' < length trace'
     → Slack (table_of rows s i o) (table_of rows' s' i' o') B c B' c' j (events (first (suc k) trace)) (events (first (suc k') trace'))

@@ -5,9 +5,9 @@ use Rattle.model.specs.Limits.{most_events}
 use Rattle.model.specs.Table.{Table, Valid, Bounded}
 use Rattle.table.specs.Bytes.{table_of}
 use Rattle.table.specs.Numbers.{Tells, Alone, Among, FirstNotValid, AllValid}
-use Rattle.table.specs.declared.answer.Test.{Test}
+use Rattle.table.specs.Test.{Test, test_of}
 use Rattle.session.specs.Numbers.{TellsOpening, opening_numbers}
-use Rattle.run.specs.declared.Ran.{Ran}
+use Rattle.run.specs.Ran.{Ran}
 use Rattle.run.specs.Run.{run_test, Runs}
 
 -- What the test t of a run tells of the table T, the bounds B and c, the trace, and a result buffer of length room:
@@ -35,4 +35,4 @@ RunTells =
 abbrev pub RanTest : Type 0
 RanTest =
     (rows : List ℕ) (s i o B c : ℕ) (trace before : List ℕ) (r : Ran) (after : List ℕ) → Runs rows s i o B c trace before r after
-    → r.test ≡ run_test rows s i o B c trace (length before)
+    → test_of r ≡ run_test rows s i o B c trace (length before)

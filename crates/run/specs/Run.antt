@@ -1,17 +1,14 @@
 -- Document 01, "Whole run", for every input. Assumes nothing.
-use Rattle.std.specs.Prelude.{◌≡◌, List, [], ◌∷◌, ◌++◌, ◌↔◌, ℕ, suc, ◌+◌, ◌*◌, ◌/◌, ◌%◌, ◌≤◌, ◌<◌, leb, length, get_or, take as first}
+use Rattle.std.specs.Prelude.{◌≡◌, List, [], ◌∷◌, ◌++◌, ◌↔◌, ℕ, suc, ◌+◌, ◌*◌, ◌/◌, ◌%◌, ◌≤◌, ◌<◌, leb, length, get_or, take as first, Option, Ok, Err}
 use Rattle.model.specs.Limits.{most_events}
 use Rattle.model.specs.Model.{box, events, Config, Set, Plausible, FlagIs}
 use Rattle.table.specs.Bytes.{table_of}
 use Rattle.table.specs.Tests.{must, events_test}
 use Rattle.table.specs.declared.answer.Refusal.{Refusal}
 use Rattle.table.specs.declared.answer.Refusal.TheVariants as refusal
-use Rattle.table.specs.declared.answer.Test.{Test}
-use Rattle.table.specs.declared.answer.Test.TheVariants.{Passed, Refused}
+use Rattle.table.specs.Test.{Test}
 use Rattle.states.specs.In.{In}
-use Rattle.session.specs.declared.Flag.{Flag}
-use Rattle.session.specs.declared.Flag.TheVariants as flag
-use Rattle.run.specs.declared.Ran.{Ran}
+use Rattle.run.specs.Ran.{Ran}
 use Rattle.session.specs.Open.{then, opening}
 use Rattle.session.specs.Session.{place_of}
 
@@ -19,11 +16,11 @@ use Rattle.session.specs.Session.{place_of}
 
 -- 9: events past the limit, 1,048,576; the count.
 abbrev pub limit_test : ℕ → Test
-limit_test n = must (leb n most_events) (refusal.Events n) Passed
+limit_test n = must (leb n most_events) (refusal.Events n) (Ok tt)
 
 -- 10: the result buffer is shorter than 12 × events; the needed length.
 abbrev pub buffer_test : ℕ → ℕ → Test
-buffer_test n room = must (leb (12 * n) room) (refusal.Buffer (12 * n)) Passed
+buffer_test n room = must (leb (12 * n) room) (refusal.Buffer (12 * n)) (Ok tt)
 
 -- Whole run: as opening, then 9, 7, 10.
 abbrev pub traced : List ℕ → ℕ → ℕ → ℕ → Test
@@ -95,18 +92,18 @@ At place line bytes = (i : ℕ) → i < 12 → get_or bytes (place + i) 0 ≡ ge
 
 -- What a run that is not refused does: for each event k the 12 bytes of the plausible set after k + 1 events; bytes after 12 × events keep
 -- their values; and the flag's place or none.
-pub record RunTo (rows : List ℕ) (s i o B c : ℕ) (trace before after : List ℕ) (f : Flag) : Type 0 where
+pub record RunTo (rows : List ℕ) (s i o B c : ℕ) (trace before after : List ℕ) (f : Option ℕ) : Type 0 where
   pub size : length after ≡ length before
   pub lines : (k : ℕ) → k < length trace → (line : List ℕ) × Line (Plausible (box (table_of rows s i o)) B c (events (first (suc k) trace))) line × At (12 * k) line after
   pub rest : (k : ℕ) → 12 * length trace ≤ k → get_or after k 0 ≡ get_or before k 0
   pub flag : FlagIs (box (table_of rows s i o)) B c (events trace) (place_of f)
 
 -- The same, of a trace and a buffer that pass their tests, for every count of states with which the table passes its own.
-abbrev pub Followed : List ℕ → ℕ → ℕ → ℕ → ℕ → List ℕ → List ℕ → List ℕ → Flag → Type 0
-Followed rows i o B c trace before after f = (s : ℕ) → opening rows s i o B c ≡ Passed → RunTo rows s i o B c trace before after f
+abbrev pub Followed : List ℕ → ℕ → ℕ → ℕ → ℕ → List ℕ → List ℕ → List ℕ → Option ℕ → Type 0
+Followed rows i o B c trace before after f = (s : ℕ) → opening rows s i o B c ≡ Ok tt → RunTo rows s i o B c trace before after f
 
 -- A refused run writes nothing, tells no flag, and its other results are 0.
 pub data Runs (rows : List ℕ) (s i o B c : ℕ) (trace before : List ℕ) : Ran → List ℕ → Type 0 where
-  refused : {r : Refusal} → run_test rows s i o B c trace (length before) ≡ Refused r → Runs rows s i o B c trace before (record { test = Refused r; flag = flag.None }) before
-  ran : {f : Flag} {after : List ℕ} → run_test rows s i o B c trace (length before) ≡ Passed → RunTo rows s i o B c trace before after f
-      → Runs rows s i o B c trace before (record { test = Passed; flag = f }) after
+  refused : {r : Refusal} → run_test rows s i o B c trace (length before) ≡ Err r → Runs rows s i o B c trace before (Err r) before
+  ran : {f : Option ℕ} {after : List ℕ} → run_test rows s i o B c trace (length before) ≡ Ok tt → RunTo rows s i o B c trace before after f
+      → Runs rows s i o B c trace before (Ok f) after

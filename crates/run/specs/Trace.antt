@@ -1,24 +1,26 @@
 -- What one event does to a run, as the code does it. Assumes nothing.
-use Rattle.std.specs.Prelude.{◌≡◌, List, [], ◌∷◌, ◌++◌, ℕ, ◌+◌, ◌*◌, ◌≤◌, ◌<◌, min, length, get_or}
+use Rattle.std.specs.Prelude.{◌≡◌, List, [], ◌∷◌, ◌++◌, ℕ, ◌+◌, ◌*◌, ◌≤◌, ◌<◌, min, length, get_or, Option, Some}
 use Rattle.table.specs.Bytes.{symbol_of}
 use Rattle.table.specs.declared.answer.Symbol.TheVariants.{Input, Output}
-use Rattle.run.specs.declared.trace.Place.{Place}
+use Rattle.run.specs.declared.lag.Lags.{Lags}
+use Rattle.run.specs.declared.lag.Window.{Window}
 use Rattle.run.specs.Run.{number, Line, Put, At}
-use Rattle.run.specs.Lag.{Lagged, Came, Went, PastLags}
+use Rattle.run.specs.Lag.{Lagged, Came, Went, PastLags, past_of}
+use Rattle.run.specs.Window.{SameLine}
 
 -- One valid event more: an input, or an output.
-pub data Stepped (rows : List ℕ) (i o B c b : ℕ) (p : Place) (words line : List ℕ) : Place → List ℕ → List ℕ → Type 0 where
-  came : {a : ℕ} {q : Place} {words' line' : List ℕ} → symbol_of b i o ≡ Input a → q.count ≡ min (p.count + 1) B
-      → Came rows (i + o) c a p.base words line q.base words' line' → Stepped rows i o B c b p words line q words' line'
-  went : {a : ℕ} {words' : List ℕ} → symbol_of b i o ≡ Output a → length words' ≡ 104
-      → Went rows (i + o) (i + a) c line p.base p.count words words' → Stepped rows i o B c b p words line p words' line
+pub data Stepped (rows : List ℕ) (i o B c b : ℕ) (w : Window) : Window → Type 0 where
+  came : {a : ℕ} {w' : Window} → symbol_of b i o ≡ Some (Input a) → w'.count ≡ min (w.count + 1) B
+      → Came rows (i + o) c a w.base w.words w.line w'.base w'.words w'.line → Stepped rows i o B c b w w'
+  went : {a : ℕ} {w' : Window} → symbol_of b i o ≡ Some (Output a) → SameLine w w'
+      → Went rows (i + o) (i + a) c w.line w.base w.count w.words w'.words → Stepped rows i o B c b w w'
 
--- The line of the set is written for event k, and one more than its greatest lag is told, 0 where there is nothing.
-pub record Recorded (words : List ℕ) (p : Place) (c k : ℕ) (before after : List ℕ) (past : ℕ) : Type 0 where
+-- The line of the set is written for event k, and its lags are told, none where there is nothing.
+pub record Recorded (w : Window) (c k : ℕ) (before after : List ℕ) (lags : Option Lags) : Type 0 where
   pub line : List ℕ
   pub put : Put (12 * k) line before after
-  pub of_set : Line (Lagged words p.base p.count c) line
-  pub lags : PastLags words p.base (p.count + c) past
+  pub of_set : Line (Lagged w.words w.base w.count c) line
+  pub past : PastLags w.words w.base (w.count + c) (past_of lags)
 
 -- The line of nothing.
 abbrev pub empty_line : List ℕ

@@ -1,24 +1,54 @@
 // The plausible set of a run, kept by lag. The lag is how many inputs came after the one last taken (or since the start, while none is):
 // each of them was lost or waits, so it is waiting + run. Which of them were lost does not bear on the state, since a loss can be put
 // off; so configurations of the same lag have the same states, and a word for each lag, 40 at the most, holds what 264 words would.
-// The words stand in a window: an input moves its base down by one place and copies nothing. The inputs of the line stand beside them,
-// the newest first, so that the head of a line of w + 1 is at place w.
-ghost use Rattle.std.specs.Prelude.{◌≡◌, ◌↔◌, ℕ, ◌+◌, ◌≤◌, ◌<◌, min, length, get_or};
-ghost use Rattle.states.specs.In.{In};
-ghost use Rattle.run.specs.Column.{Ready};
-ghost use Rattle.run.specs.Lag.{Within, Drawn, Copied, Based, Came, FollowedFrom, DrawnFrom, Went, LeastLag, PastLags, Tallied};
+ghost use Rattle.std.specs.Prelude.{◌≡◌, ◌↔◌, ℕ, ◌+◌, ◌≤◌, ◌<◌, length, slice_index, EachIndex, MatchOption};
+ghost use Rattle.states.specs.In.{In, AnyOf};
+ghost use Rattle.states.specs.Rows.{Image};
+ghost use Rattle.run.specs.Lag.{Found};
 
-use crate::column;
+use crate::column::Columns;
 
-// Where the window begins when it has been moved up.
+// Where the window begins at first, and when it has been moved up.
 const TOP: usize = 64;
 
-// The states at all lags of a set, the least lag that has one, and the one past the greatest.
+// What a run goes by, tested and made ready: the columns of its table, the inputs first, how many inputs may wait, and fewer than how many are
+// lost in a row.
+#[derive(Drop)]
+pub(crate) struct Prepared<'a> {
+    pub columns: Columns<'a>,
+    pub inputs: u8,
+    pub outputs: u8,
+    pub waiting: usize,
+    pub losses: usize,
+    ghost wide: { columns.width ≡ inputs + outputs },
+    ghost symbols: { (inputs ≤ 16) × (outputs ≤ 16) },
+    ghost bounded: { (waiting ≤ 32) × (0 < losses) × (losses ≤ 8) },
+}
+
+// The words stand in a window: an input moves its base down by one place and copies nothing. The inputs of the line, of which there are
+// `count`, stand beside them, the newest first, so that the head of a line of w + 1 is at place w.
+#[derive(Drop)]
+pub(crate) struct Window {
+    words: [u64; 104],
+    line: [u8; 104],
+    base: usize,
+    pub count: usize,
+    ghost low: { base ≤ 64 },
+    ghost few: { count ≤ 32 },
+}
+
+// The least lag that has a state, and the greatest.
+#[derive(Clone, Copy)]
+pub(crate) struct Lags {
+    pub least: usize,
+    pub most: usize,
+}
+
+// The states at all lags of a set, and the lags that have one, if any.
 #[derive(Clone, Copy)]
 pub(crate) struct Tally {
     pub states: u64,
-    pub least: usize,
-    pub past: usize,
+    pub lags: Option<Lags>,
 }
 
 // x, if fewer than c are lost.
@@ -28,240 +58,153 @@ fn kept(x: u64, lost: usize, c: usize) -> u64
     if lost < c { x } else { 0 }
 }
 
-// The states of the c words from a place on: those of one waiting count, whatever the run.
-fn within(words: &[u64; 104], at: usize, c: usize) -> u64
-    requires { (at ≤ 96) × (c ≤ 8) }
-    ensures { (s : ℕ) → In s result ↔ Within words.now at c s }
+// The states of all words.
+#[tactic(auto, using(states::proofs::Words::any_none, states::proofs::Words::any_more))]
+fn states_of(words: &[u64]) -> u64
+    ensures { (s : ℕ) → In s result ↔ AnyOf (length words.now) words.now s }
 {
-    let mut all: u64 = 0;
-    let mut lost: usize = 0;
-    while lost < 8 {
-        all = all | kept(words[at + lost], lost, c);
-        lost += 1;
+    let mut all = 0;
+    for &word in words {
+        all |= word;
     }
     all
 }
 
-// Where a take of input a leads from the waiting count whose words begin at this place.
-fn drawn<'a>(
-    words: &[u64; 104],
-    at: usize,
-    c: usize,
-    columns: &'a [u64; 160],
-    rows: &'a [u8],
-    width: u8,
-    a: u8,
-) -> u64
-    requires { (at ≤ 96) × (c ≤ 8) × (a < width) × (width ≤ 32) × Ready rows.now width width columns.now }
-    ensures { (t : ℕ) → In t result ↔ Drawn rows.now width a c words.now at t }
+// The first word that has a state, and the last.
+fn lags_of(words: &[u64]) -> Option<Lags>
+    ensures { MatchOption result (EachIndex words.now (λ j. slice_index words.now j ≡ 0)) (Found words.now) }
 {
-    column::image(columns, rows, width, a, within(words, at, c))
+    let least = words.iter().position(|&word| word != 0)?;
+    let most = words.iter().rposition(|&word| word != 0)?;
+    Some(Lags { least, most })
 }
 
-// AN INPUT
-
-// The first 40 words are put at the top.
-fn copy_words(words: &mut [u64; 104])
-    requires { length words.old ≡ 104 }
-    ensures { Copied words.old words.new }
+// Every state of the words follows the column.
+fn follow(words: &mut [u64], columns: &Columns, column: u8)
+    requires { column < columns.now.width }
+    ensures { (j t : ℕ) → j < length words.old → In t (slice_index words.new j) ↔ Image columns.now.rows.now columns.now.width column (slice_index words.old j) t }
 {
-    let mut k: usize = 0;
-    while k < 40 {
-        let x = words[k];
-        words[TOP + k] = x;
-        k += 1;
+    for word in words.iter_mut() {
+        *word = columns.image(column, *word);
     }
 }
 
-// The first 40 inputs are put at the top.
-fn copy_line(line: &mut [u8; 104])
-    requires { length line.old ≡ 104 }
-    ensures { Copied line.old line.new }
-{
-    let mut k: usize = 0;
-    while k < 40 {
-        let x = line[k];
-        line[TOP + k] = x;
-        k += 1;
+impl Window {
+    ghost use Rattle.std.specs.Prelude.{◌≡◌, ◌↔◌, ℕ, ◌+◌, ◌≤◌, ◌<◌, min, get_or};
+    ghost use Rattle.states.specs.In.{In};
+    ghost use Rattle.run.specs.Lag.{Within, Drawn, Based, Came, DrawnFrom, Went, PastLags, Tallied};
+    ghost use Rattle.run.specs.Window.{First, InTable, SameLine};
+
+    // Before any event state 0 alone is plausible, and nothing came.
+    pub(crate) fn first() -> Window
+        ensures { First result }
+    {
+        let mut words = [0u64; 104];
+        words[TOP] = 1;
+        Window {
+            words,
+            line: [0u8; 104],
+            base: TOP,
+            count: 0,
+        }
     }
-}
 
-// There is a place below the base: where there is none, the window is moved up.
-fn based(words: &mut [u64; 104], line: &mut [u8; 104], base: usize) -> usize
-    requires { (base ≤ 64) × (length words.old ≡ 104) × (length line.old ≡ 104) }
-    ensures { Based base words.old line.old result words.new line.new }
-{
-    if 0 < base {
-        return base;
+    // The states of the c words from a place on: those of one waiting count, whatever the run.
+    fn within(&self, at: usize, c: usize) -> u64
+        requires { (at ≤ 96) × (c ≤ 8) }
+        ensures { (s : ℕ) → In s result ↔ Within self.now.words at c s }
+    {
+        let mut all = 0;
+        // Always eight steps, so that the compiler unrolls them.
+        for (lost, &word) in self.words[at..at + 8].iter().enumerate() {
+            all |= kept(word, lost, c);
+        }
+        all
     }
-    copy_words(&mut *words);
-    copy_line(&mut *line);
-    TOP
-}
 
-// Input a comes: every lag is one more, and at lag 0 is what takes it. The set is closed under takes of older inputs, and a loss leaves
-// the lag as it is. The answer is the new base.
-pub(crate) fn arrived<'a>(
-    words: &mut [u64; 104],
-    line: &mut [u8; 104],
-    base: usize,
-    columns: &'a [u64; 160],
-    rows: &'a [u8],
-    width: u8,
-    c: usize,
-    a: u8,
-) -> usize
-    requires { (base ≤ 64) × (c ≤ 8) × (length words.old ≡ 104) × (length line.old ≡ 104) × (a < width) × (width ≤ 32) × Ready rows.now width width columns.now }
-    ensures { Came rows.now width c a base words.old line.old result words.new line.new }
-{
-    let here = based(&mut *words, &mut *line, base) - 1;
-    line[here] = a;
-    let x = drawn(&*words, here + 1, c, columns, rows, width, a);
-    words[here] = x;
-    here
-}
-
-// AN OUTPUT
-
-// At the m first lags every state follows the column.
-fn follow<'a>(
-    words: &mut [u64; 104],
-    base: usize,
-    m: usize,
-    columns: &'a [u64; 160],
-    rows: &'a [u8],
-    width: u8,
-    column: u8,
-)
-    requires { (base ≤ 64) × (m ≤ 40) × (length words.old ≡ 104) × (column < width) × (width ≤ 32) × Ready rows.now width width columns.now }
-    ensures { FollowedFrom rows.now width column base m 0 words.old words.new }
-{
-    let mut j = m;
-    while 0 < j {
-        j -= 1;
-        let x = column::image(columns, rows, width, column, words[base + j]);
-        words[base + j] = x;
+    // Where a take of input a leads from the waiting count whose words begin at this place.
+    // Inlined in both of its callers, so that a run makes no call for an event.
+    #[inline(always)]
+    #[tactic(auto, using(crate::proofs::Lags::drawn_image))]
+    fn drawn(&self, prepared: &Prepared, at: usize, a: u8) -> u64
+        requires { (at ≤ 96) × (a < prepared.now.columns.width) }
+        ensures { (t : ℕ) → In t result ↔ Drawn prepared.now.columns.rows.now prepared.now.columns.width a prepared.now.losses self.now.words at t }
+    {
+        prepared.columns.image(a, self.within(at, prepared.losses))
     }
-}
 
-// Takes, from the longest line to the shortest: at lag w also stands where the head of a line of w + 1 leads when it is taken.
-fn draw<'a>(
-    words: &mut [u64; 104],
-    line: &'a [u8; 104],
-    base: usize,
-    n: usize,
-    columns: &'a [u64; 160],
-    rows: &'a [u8],
-    width: u8,
-    c: usize,
-)
-    requires base_bound { (base ≤ 64) × (n ≤ 32) × (c ≤ 8) × (length words.old ≡ 104) × (width ≤ 32) × Ready rows.now width width columns.now }
-    requires by_index { (w : ℕ) → w < n → get_or line.now (base + w) 0 < width }
-    ensures { DrawnFrom rows.now width c line.now base n 0 words.old words.new }
-{
-    let mut w = n;
-    while 0 < w {
-        w -= 1;
-        let x = drawn(
-            &*words,
-            base + w + 1,
-            c,
-            columns,
-            rows,
-            width,
-            line[base + w],
+    // AN INPUT
+
+    // There is a place below the base: where there is none, the first 40 words and inputs are put at the top.
+    fn based(&mut self)
+        ensures { Based self.old.base self.old.words self.old.line self.new.base self.new.words self.new.line × (self.new.count ≡ self.old.count) }
+    {
+        if self.base == 0 {
+            self.words.copy_within(..40, TOP);
+            self.line.copy_within(..40, TOP);
+            self.base = TOP;
+        }
+    }
+
+    // Input a comes: every lag is one more, and at lag 0 is what takes it. The set is closed under takes of older inputs, and a loss leaves
+    // the lag as it is.
+    pub(crate) fn arrived(&mut self, prepared: &Prepared, a: u8)
+        requires { a < prepared.now.inputs }
+        ensures count { self.new.count ≡ min (self.old.count + 1) prepared.now.waiting }
+        ensures came { Came prepared.now.columns.rows.now prepared.now.columns.width prepared.now.losses a self.old.base self.old.words self.old.line self.new.base self.new.words self.new.line }
+    {
+        self.based();
+        let here = self.base - 1;
+        self.base = here;
+        self.line[here] = a;
+        self.words[here] = self.drawn(prepared, here + 1, a);
+        self.count = (self.count + 1).min(prepared.waiting);
+    }
+
+    // AN OUTPUT
+
+    // Takes, from the longest line to the shortest: at lag w also stands where the head of a line of w + 1 leads when it is taken.
+    fn draw(&mut self, prepared: &Prepared, n: usize)
+        requires few { n ≤ self.old.count }
+        requires in_table { InTable prepared.now.inputs self.old }
+        ensures line { SameLine self.old self.new }
+        ensures words { DrawnFrom prepared.now.columns.rows.now prepared.now.columns.width prepared.now.losses self.old.line self.old.base n 0 self.old.words self.new.words }
+    {
+        let base = self.base;
+        for w in (0..n).rev() {
+            let a = self.line[base + w];
+            let x = self.drawn(prepared, base + w + 1, a);
+            self.words[base + w] |= x;
+        }
+    }
+
+    // An output is seen, which stands in this column. Above the lag `most` there is nothing: neither is anything there afterwards.
+    pub(crate) fn sent(&mut self, prepared: &Prepared, most: usize, column: u8)
+        requires column { column < prepared.now.columns.width }
+        requires in_table { InTable prepared.now.inputs self.old }
+        requires past_lags { PastLags self.old.words self.old.base (self.old.count + prepared.now.losses) (most + 1) }
+        ensures line { SameLine self.old self.new }
+        ensures words { Went prepared.now.columns.rows.now prepared.now.columns.width column prepared.now.losses self.old.line self.old.base self.old.count self.old.words self.new.words }
+    {
+        let past = most + 1;
+        follow(
+            &mut self.words[self.base..self.base + past],
+            &prepared.columns,
+            column,
         );
-        words[base + w] = words[base + w] | x;
+        self.draw(prepared, self.count.min(past));
     }
-}
 
-// The lesser of two.
-fn lesser(a: usize, b: usize) -> usize
-    ensures { result ≡ min a b }
-{
-    if a < b { a } else { b }
-}
+    // THE TALLY
 
-// An output is seen, which stands in this column. The line has n inputs, and from the lag `past` on there is nothing: neither is anything
-// there afterwards.
-pub(crate) fn sent<'a>(
-    words: &mut [u64; 104],
-    line: &'a [u8; 104],
-    base: usize,
-    n: usize,
-    past: usize,
-    columns: &'a [u64; 160],
-    rows: &'a [u8],
-    width: u8,
-    column: u8,
-    c: usize,
-)
-    requires base_bound { (base ≤ 64) × (n ≤ 32) × (c ≤ 8) × (length words.old ≡ 104) × (column < width) × (width ≤ 32) × Ready rows.now width width columns.now }
-    requires by_index { (w : ℕ) → w < n → get_or line.now (base + w) 0 < width }
-    requires past_lags { PastLags words.old base (n + c) past }
-    ensures { Went rows.now width column c line.now base n words.old words.new }
-{
-    follow(&mut *words, base, past, columns, rows, width, column);
-    draw(
-        &mut *words,
-        line,
-        base,
-        lesser(n, past),
-        columns,
-        rows,
-        width,
-        c,
-    );
-}
-
-// THE TALLY
-
-// The states at the m first lags.
-fn states_of(words: &[u64; 104], base: usize, m: usize) -> u64
-    requires { (base ≤ 64) × (m ≤ 40) }
-    ensures { (s : ℕ) → In s result ↔ Within words.now base m s }
-{
-    let mut all: u64 = 0;
-    let mut j: usize = 0;
-    while j < m {
-        all = all | words[base + j];
-        j += 1;
-    }
-    all
-}
-
-// The least of the m first lags that has a state; m, where none has.
-fn least_of(words: &[u64; 104], base: usize, m: usize) -> usize
-    requires { (base ≤ 64) × (m ≤ 40) }
-    ensures { LeastLag words.now base m result }
-{
-    let mut j: usize = 0;
-    while j < m && words[base + j] == 0 {
-        j += 1;
-    }
-    j
-}
-
-// One more than the greatest of the m first lags that has a state; 0, where none has.
-fn past_of(words: &[u64; 104], base: usize, m: usize) -> usize
-    requires { (base ≤ 64) × (m ≤ 40) }
-    ensures { PastLags words.now base m result }
-{
-    let mut j = m;
-    while 0 < j && words[base + j - 1] == 0 {
-        j -= 1;
-    }
-    j
-}
-
-// What stands at the m first lags.
-pub(crate) fn tally_of(words: &[u64; 104], base: usize, m: usize) -> Tally
-    requires { (base ≤ 64) × (m ≤ 40) }
-    ensures { Tallied words.now base m result }
-{
-    Tally {
-        states: states_of(words, base, m),
-        least: least_of(words, base, m),
-        past: past_of(words, base, m),
+    // What stands at the lags.
+    pub(crate) fn tally(&self, prepared: &Prepared) -> Tally
+        ensures { Tallied self.now.words self.now.base (self.now.count + prepared.now.losses) result }
+    {
+        let words = &self.words[self.base..self.base + self.count + prepared.losses];
+        Tally {
+            states: states_of(words),
+            lags: lags_of(words),
+        }
     }
 }

@@ -1,4 +1,5 @@
 -- Opened sessions, and one of zeros. Assumes nothing.
+use Rattle.std.specs.Prelude.{Ok}
 use mathlib.Core.Path.{◌≡◌, refl, ◌∙◌, ap}
 use mathlib.Core.List.{List}
 use mathlib.Core.Logic.{◌↔◌, ◌≢◌, ⊎_elim}
@@ -11,7 +12,6 @@ use Rattle.model.specs.Table.{Valid}
 use Rattle.model.specs.Model.{Config, cfg}
 use Rattle.model.proofs.Flags.{lt_or_ge}
 use Rattle.table.specs.Bytes.{table_of}
-use Rattle.table.specs.declared.answer.Test.TheVariants.{Passed}
 use Rattle.states.specs.In.{In}
 use Rattle.states.proofs.Member.{not_in_zero, in_pow}
 use Rattle.session.specs.Sets.{Holds}
@@ -84,7 +84,7 @@ first_holds x = (to, from)
 -- THE SESSION
 
 -- rows that pass, with zeros after them
-module _ (rows : List ℕ) (s i o B c : ℕ) (passes : opening rows s i o B c ≡ Passed) where
+module _ (rows : List ℕ) (s i o B c : ℕ) (passes : opening rows s i o B c ≡ Ok tt) where
   valid : Valid (table_of rows s i o)
   valid = ((opening_passes rows s i o B c).0 passes).0
 

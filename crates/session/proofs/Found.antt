@@ -1,5 +1,5 @@
 -- Whether a set holds anything, told from its words. Assumes nothing.
-use mathlib.Core.Path.{◌≡◌, refl, sym}
+use mathlib.Core.Path.{◌≡◌, refl}
 use mathlib.Core.Bool.{true, false}
 use mathlib.Core.List.{List}
 use mathlib.Core.Logic.{⊎_elim}
@@ -11,9 +11,6 @@ use Rattle.states.specs.In.{AnyOf, Empty}
 use Rattle.states.proofs.Same.{none_or_any}
 use Rattle.session.specs.Sets.{Holds}
 use Rattle.session.specs.Laws.{FindsUnlessEmpty}
-
-clash : {A : Type 0} → true ≡ false → A
-clash e = absurd (let z : ◌≡◌ {A = ℕ} 0 1 = cc in omega arith)
 
 module _ (set : List ℕ) (len : length set ≡ 264) where
   held_one : (s : ℕ) × AnyOf (length set) set s → (x : Config ℕ) × Holds set x
@@ -31,6 +28,6 @@ module _ (set : List ℕ) (len : length set ≡ 264) where
 
 -- Words of which none has a state hold nothing, and others a configuration, given here.
 pub finds_unless_empty : FindsUnlessEmpty
-finds_unless_empty set true len d = record { yes = λ f. clash (sym f); no = λ f. held_none set len (d.yes refl) }
+finds_unless_empty set true len d = record { yes = λ f. cc; no = λ f. held_none set len (d.yes refl) }
 finds_unless_empty set false len d =
-    record { yes = λ f. ⊎_elim (λ n. absurd (d.no refl n)) (held_one set len) (none_or_any (length set) set); no = λ f. clash f }
+    record { yes = λ f. ⊎_elim (λ n. absurd (d.no refl n)) (held_one set len) (none_or_any (length set) set); no = λ f. cc }

@@ -1,4 +1,5 @@
 -- Which number an opening tells, and when: the laws of specs/Numbers.antt. Assumes nothing.
+use Rattle.std.specs.Prelude.{Ok, Err}
 use mathlib.Core.Path.{◌≡◌, refl}
 use mathlib.Core.Bool.{false}
 use mathlib.Core.List.Memᴰ.{append_left as in_left}
@@ -12,9 +13,7 @@ use Rattle.model.specs.Table.{Valid}
 use Rattle.table.specs.Bytes.{table_of}
 use Rattle.table.specs.Numbers.{Tells, Among}
 use Rattle.table.specs.Tests.{counts_test, length_test, entries_test, bounds_test}
-use Rattle.table.specs.declared.answer.Test.{Test}
-use Rattle.table.specs.declared.answer.Test.TheVariants.{Passed, Refused}
-use Rattle.table.proofs.Checks.{clash}
+use Rattle.table.specs.Test.{Test}
 use Rattle.table.proofs.Laws.{counts_pass, length_passes, table_passes, passed_tells_none, states_told, symbols_told, counts_among, rows_told, length_among, entry_told, entries_among, waiting_told, losses_told, bounds_among}
 use Rattle.table.proofs.Numbers.{Never, listed, never}
 use Rattle.session.specs.Open.{then, with_session, begun, opening, opened}
@@ -23,8 +22,8 @@ use Rattle.session.specs.Numbers.{ThenTells, ThenAmong, Counted, Sized, OpeningT
 -- ONE TEST AFTER ANOTHER
 
 pub then_tells : ThenTells
-then_tells Passed b n p q = (λ t. inr (refl, t), λ x. ⊎_elim (λ t. absurd (passed_tells_none n p q t)) (λ (e, t). t) x)
-then_tells (Refused r) b n p q = (λ t. inl t, λ x. ⊎_elim (λ t. t) (λ (e, t). clash (cc)) x)
+then_tells (Ok _) b n p q = (λ t. inr (refl, t), λ x. ⊎_elim (λ t. absurd (passed_tells_none n p q t)) (λ (e, t). t) x)
+then_tells (Err r) b n p q = (λ t. inl t, λ x. ⊎_elim (λ t. t) (λ (e, t). cc) x)
 
 pub then_among : ThenAmong
 then_among a b numbers others f g n p q t =
@@ -37,7 +36,7 @@ first_tells a b n p q f = (
   λ x. (then_tells a b n p q).1 (inl x),
 )
 
-pub second_tells : (a b : Test) (n p q : ℕ) → Never n a → Tells (then a b) n p q ↔ ((a ≡ Passed) × Tells b n p q)
+pub second_tells : (a b : Test) (n p q : ℕ) → Never n a → Tells (then a b) n p q ↔ ((a ≡ Ok tt) × Tells b n p q)
 second_tells a b n p q f = (
   λ t. ⊎_elim (λ x. absurd (f p q x)) (λ y. y) ((then_tells a b n p q).0 t),
   λ y. (then_tells a b n p q).1 (inr y),
@@ -50,8 +49,8 @@ unfolding opened
 opened_test rows s i o B c = go (opening rows s i o B c)
   where
     go : (t : Test) → (with_session t (begun rows s i o B c)).test ≡ t
-    go Passed = refl
-    go (Refused r) = refl
+    go (Ok _) = refl
+    go (Err r) = refl
 
 -- the four tests, and what follows each
 module _ (rows : List ℕ) (s i o B c : ℕ) where
@@ -86,7 +85,7 @@ module _ (rows : List ℕ) (s i o B c : ℕ) where
   all_among = then_among counts after_counts (2 ∷ 3 ∷ []) (1 ∷ 4 ∷ 5 ∷ 6 ∷ []) (counts_among s i o) later_among
 
   -- the counts pass exactly when they are right
-  right_counts : counts ≡ Passed ↔ Counted (table_of rows s i o)
+  right_counts : counts ≡ Ok tt ↔ Counted (table_of rows s i o)
   unfolding counts
   right_counts = (
     λ e. let (a, b, d) = (counts_pass s i o).0 e in record { states = a; inputs = b; outputs = d },

@@ -1,21 +1,20 @@
 -- Document 01, "Numbers for what is turned away", of an opening: which number is told when, in the document's order, 2, 3, 1, 4, 5, 6, and
 -- with which places. Each number is given exactly when its own test fails and those before it hold. proofs/Numbers.antt proves the laws.
 -- Assumes nothing.
-use Rattle.std.specs.Prelude.{◌≡◌, List, [], ◌∷◌, ◌++◌, ◌↔◌, ◌⊎◌, ℕ, ◌*◌, length}
+use Rattle.std.specs.Prelude.{◌≡◌, List, [], ◌∷◌, ◌++◌, ◌↔◌, ◌⊎◌, ℕ, ◌*◌, length, Ok}
 use Rattle.model.specs.Limits.{most_states, most_inputs, most_outputs, most_waiting, most_losses, UpTo}
 use Rattle.model.specs.Table.{Table, width, Valid}
 use Rattle.table.specs.Bytes.{table_of}
 use Rattle.table.specs.Laws.{FirstBad}
 use Rattle.table.specs.Numbers.{Tells, Alone, Among, FirstWrong}
-use Rattle.table.specs.declared.answer.Test.{Test}
-use Rattle.table.specs.declared.answer.Test.TheVariants.{Passed}
+use Rattle.table.specs.Test.{Test}
 use Rattle.session.specs.Open.{then, opening, opened}
 
 -- ONE TEST AFTER ANOTHER
 
 -- The first that is not passed tells its number: the first, or the second after the first passed.
 abbrev pub ThenTells : Type 0
-ThenTells = (a b : Test) (n p q : ℕ) → Tells (then a b) n p q ↔ (Tells a n p q ⊎ ((a ≡ Passed) × Tells b n p q))
+ThenTells = (a b : Test) (n p q : ℕ) → Tells (then a b) n p q ↔ (Tells a n p q ⊎ ((a ≡ Ok tt) × Tells b n p q))
 
 -- Only numbers of the two are told.
 abbrev pub ThenAmong : Type 0

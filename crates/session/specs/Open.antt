@@ -1,12 +1,10 @@
 -- Document 01: opening a session, for every input. Assumes nothing.
-use Rattle.std.specs.Prelude.{List, ◌++◌, ℕ, length, take, drop, set, replicate}
+use Rattle.std.specs.Prelude.{List, ◌++◌, ℕ, length, take, drop, set, replicate, None, Ok, Err}
 use Rattle.table.specs.Bytes.{table_of}
 use Rattle.table.specs.Tests.{counts_test, length_test, entries_test, bounds_test}
-use Rattle.table.specs.declared.answer.Test.{Test}
-use Rattle.table.specs.declared.answer.Test.TheVariants.{Passed, Refused}
+use Rattle.table.specs.Test.{Test}
 use Rattle.session.specs.declared.Session.{Session}
 use Rattle.session.specs.declared.Opened.{Opened}
-use Rattle.session.specs.declared.Flag.TheVariants as flag
 
 -- n zeros, of which the first places are given to the bytes
 unfoldable pub zeros : ℕ → List ℕ
@@ -29,7 +27,7 @@ zero_session =
       held = zeros 32;
       events = 0;
       arrived = 0;
-      flag = flag.None;
+      flag = None;
     }
 
 -- An opened session has the one configuration (0,0,0), counts 0 and no flag.
@@ -46,13 +44,13 @@ begun rows s i o B c =
       held = zeros 32;
       events = 0;
       arrived = 0;
-      flag = flag.None;
+      flag = None;
     }
 
 -- One test after another: the first that is not passed refuses.
 abbrev pub then : Test → Test → Test
-then Passed t = t
-then (Refused r) t = Refused r
+then (Ok _) t = t
+then (Err r) t = Err r
 
 -- Order. Opening: 2, 3, and then, of counts that are right, 1, 4, 5, 6.
 abbrev pub counted : List ℕ → ℕ → ℕ → ℕ → ℕ → ℕ → Test
@@ -63,8 +61,8 @@ opening rows s i o B c = then (counts_test s i o) (counted rows s i o B c)
 
 -- A refused opening returns a session of zeros only.
 abbrev pub with_session : Test → Session → Opened
-with_session Passed s = record { test = Passed; session = s }
-with_session (Refused r) s = record { test = Refused r; session = zero_session }
+with_session (Ok _) s = record { test = Ok tt; session = s }
+with_session (Err r) s = record { test = Err r; session = zero_session }
 
 unfoldable pub opened : List ℕ → ℕ → ℕ → ℕ → ℕ → ℕ → Opened
 opened rows s i o B c = with_session (opening rows s i o B c) (begun rows s i o B c)

@@ -1,14 +1,11 @@
 -- Document 01, "Event bytes and sessions": what a session carries, and when it is sound. Assumes nothing.
-use Rattle.std.specs.Prelude.{◌≡◌, List, ℕ, ◌+◌, ◌*◌, ◌≤◌, ◌<◌, min, length, get_or, take}
-use Rattle.std.proofs.Math.Option.{Option, some, none}
+use Rattle.std.specs.Prelude.{◌≡◌, List, ℕ, ◌+◌, ◌*◌, ◌≤◌, ◌<◌, min, length, get_or, take, Option, Some, None}
 use Rattle.model.specs.Limits.{most_events}
 use Rattle.model.specs.Table.{Table, Valid, Bounded}
 use Rattle.model.specs.Model.{Config, cfg}
 use Rattle.model.specs.Demands.{Fits}
 use Rattle.table.specs.Bytes.{table_of}
 use Rattle.session.specs.declared.Session.{Session}
-use Rattle.session.specs.declared.Flag.{Flag}
-use Rattle.session.specs.declared.Flag.TheVariants as flag
 use Rattle.states.specs.In.{In}
 use Rattle.session.specs.Sets.{Holds}
 
@@ -57,9 +54,9 @@ pub record HeldSound (held : List ℕ) (n inputs : ℕ) : Type 0 where
   pub rest : ZeroFrom n held
 
 -- A flag's place is below the events seen and present exactly when the set is empty.
-abbrev pub FlagFits : ℕ → List ℕ → Flag → Type 0
-FlagFits events set flag.None = (x : Config ℕ) × Holds set x
-FlagFits events set (flag.At place) = (place < events) × ((x : Config ℕ) → Holds set x → ⊥)
+abbrev pub FlagFits : ℕ → List ℕ → Option ℕ → Type 0
+FlagFits events set None = (x : Config ℕ) × Holds set x
+FlagFits events set (Some place) = (place < events) × ((x : Config ℕ) → Holds set x → ⊥)
 
 -- A session is sound if
 pub record Sound (s : Session) : Type 0 where
@@ -84,6 +81,6 @@ pub record Proper (s : Session) : Type 0 where
   pub held : length s.held ≡ 32
 
 -- The place of a flag, if any.
-abbrev pub place_of : Flag → Option ℕ
-place_of flag.None = none
-place_of (flag.At place) = some place
+abbrev pub place_of : Option ℕ → Option ℕ
+place_of None = None
+place_of (Some place) = Some place

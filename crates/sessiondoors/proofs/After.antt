@@ -1,12 +1,12 @@
 -- What lies in the memory after an opening and after a feed. Assumes nothing.
+use Rattle.std.specs.Prelude.{Ok, Err}
 use mathlib.Core.Path.{◌≡◌, refl, ap, ◌∙◌}
 use mathlib.Core.List.{List}
 use Prim.Native.Nat.{ℕ, ◌≤◌}
 use native.Mathlib.Omega.{arith}
 use lib.ListN.{length, length-append, length-take, length-drop, length-replicate, length-set}
 use lib.Seq.{length-take-le}
-use Rattle.table.specs.declared.answer.Test.{Test}
-use Rattle.table.specs.declared.answer.Test.TheVariants.{Passed, Refused}
+use Rattle.table.specs.Test.{Test}
 use Rattle.table.specs.Refusals.{told}
 use Rattle.session.specs.declared.Session.{Session}
 use Rattle.session.specs.declared.Opened.{Opened}
@@ -43,8 +43,8 @@ unfolding opened
 opened_sized rows s i o B c = go (opening rows s i o B c)
   where
     go : (t : Test) → Sized (with_session t (begun rows s i o B c)).session
-    go Passed = begun_sized rows s i o B c
-    go (Refused r) = zero_sized
+    go (Ok _) = begun_sized rows s i o B c
+    go (Err r) = zero_sized
 
 pub opened_lies : OpenedLies
 opened_lies rows s i o B c w b t w' b' t' (doors.refused e f k) z = absurd (refuses _ (rw k at z))

@@ -1,21 +1,20 @@
 -- What a function wrote, part by part, is what its contract says. Assumes nothing.
+use Rattle.std.specs.Prelude.{Ok, Err}
+use Rattle.std.specs.Result.{is_err}
 use mathlib.Core.Path.{◌≡◌, refl}
-use mathlib.Core.Bool.{true, ◌&&◌}
+use mathlib.Core.Bool.{true, false, ◌&&◌, and-eq-true_iff}
 use mathlib.Core.List.{List}
 use Prim.Native.Nat.{ℕ, ◌≤◌}
 use lib.Dec.{leb}
-use lib.ListN.{length, get_or}
+use lib.ListN.{length}
 use native.Mathlib.Omega.{arith}
 use borrow.Author.Tests.{leb-true}
-use Rattle.table.proofs.Checks.{both}
 use Rattle.table.specs.Refusals.{told}
 use Rattle.table.specs.declared.answer.Refusal.{Refusal}
 use Rattle.table.specs.declared.answer.Refusal.TheVariants.{Rows, States, Symbols, Entry, Waiting, Losses, Event, Unsound, Events, Buffer}
-use Rattle.table.specs.declared.answer.Test.{Test}
-use Rattle.table.specs.declared.answer.Test.TheVariants.{Passed, Refused}
-use Rattle.figures.specs.Figures.{told_test}
+use Rattle.table.specs.Test.{Test}
 use Rattle.session.specs.declared.Opened.{Opened}
-use Rattle.monitor.specs.declared.feed.Fed.{Fed}
+use Rattle.monitor.specs.Fed.{Fed}
 use Rattle.session.specs.Open.{opened}
 use Rattle.monitor.specs.Feed.{Feeds}
 use Rattle.lent.specs.Lent.{front, put_at}
@@ -32,8 +31,8 @@ pub record Room (w b t : List ℕ) : Type 0 where
 
 pub room : (w b t : List ℕ) → roomy w b t ≡ true → Room w b t
 room w b t e =
-    let (x, r) = both (leb session_words (length w)) (leb session_bytes (length b) && leb test_size (length t)) e in
-    let (y, z) = both (leb session_bytes (length b)) (leb test_size (length t)) r in
+    let (x, r) = (and-eq-true_iff (leb session_words (length w)) (leb session_bytes (length b) && leb test_size (length t))).0 e in
+    let (y, z) = (and-eq-true_iff (leb session_bytes (length b)) (leb test_size (length t))).0 r in
     record { words = leb-true _ _ x; bytes = leb-true _ _ y; told = leb-true _ _ z }
 
 -- a number of 0 is told of no refusal
@@ -50,28 +49,26 @@ refuses Unsound e = omega arith
 refuses (Events _) e = omega arith
 refuses (Buffer _) e = omega arith
 
-passes : (t : Test) → (told_test t).number ≡ 0 → t ≡ Passed
-passes Passed e = refl
-passes (Refused r) e = absurd (refuses r e)
-
 pub opens_by : {rows : List ℕ} {s i o B c : ℕ} {w b t w' b' v t' : List ℕ} (r : Opened) → roomy w b t ≡ true → r ≡ opened rows s i o B c
-    → get_or v 0 0 ≡ 0 → w' ≡ front w (words_of r.session) → b' ≡ front b (bytes_of r.session) → v ≡ test_results r.test
+    → is_err r.test ≡ false → w' ≡ front w (words_of r.session) → b' ≡ front b (bytes_of r.session) → v ≡ test_results r.test
     → t' ≡ put_at t 0 v → Opens rows s i o B c w b t true w' b' t'
 opens_by {w = w} {b = b} {t = t} {v = v} {t' = t'} r e f n x y g h =
     let z : t' ≡ front t (test_results r.test) = put_start t v (test_results r.test) t' (room w b t e).told g h in
-    let p : r.test ≡ Passed = passes r.test (rw g at n) in
-    rw (x, y, z) (doors.opens {r = r} e f p)
+    rw (x, y, z) (doors.opens {r = r} e f (passes r.test n))
+  where
+    passes : (t : Test) → is_err t ≡ false → t ≡ Ok tt
+    passes (Ok _) k = refl
+    passes (Err why) k = cc
 
--- what is not told with 0 is a refusal
 pub refuses_by : {rows : List ℕ} {s i o B c : ℕ} {w b t v t' : List ℕ} (r : Opened) → roomy w b t ≡ true → r ≡ opened rows s i o B c
-    → (get_or v 0 0 ≡ 0 → ⊥) → v ≡ test_results r.test → t' ≡ put_at t 0 v → Opens rows s i o B c w b t true w b t'
+    → is_err r.test ≡ true → v ≡ test_results r.test → t' ≡ put_at t 0 v → Opens rows s i o B c w b t true w b t'
 refuses_by {rows} {s} {i} {o} {B} {c} {w} {b} {t} {v} {t'} r e f n g h =
     let z : t' ≡ front t (test_results r.test) = put_start t v (test_results r.test) t' (room w b t e).told g h in
     rw z (go r.test refl)
   where
     go : (q : Test) → r.test ≡ q → Opens rows s i o B c w b t true w b (front t (test_results r.test))
-    go Passed k = absurd (n (rw (g, k)))
-    go (Refused why) k = doors.refused {r = r} e f k
+    go (Ok _) k = let x = rw k at n in cc x
+    go (Err why) k = doors.refused {r = r} e f k
 
 pub feeds_by : {w b : List ℕ} {byte : ℕ} {t w' b' v t' : List ℕ} (r : Fed) → roomy w b t ≡ true → Feeds (session_in w b) byte r
     → w' ≡ front w (words_of r.session) → b' ≡ front b (bytes_of r.session) → v ≡ test_results r.test → t' ≡ put_at t 0 v

@@ -1,5 +1,4 @@
 pub mod Laws
-mod Copies
 mod Layouts
 mod Flags
 mod Answers

@@ -7,7 +7,6 @@ use Prim.Native.Nat.{ℕ}
 use lib.Dec.{leb}
 use lib.ListN.{length}
 use borrow.Author.Tests.{leb-false, lt-leb}
-use Rattle.table.proofs.Checks.{clash}
 use Rattle.sessiondoors.specs.Layout.{session_words, session_bytes}
 use Rattle.sessiondoors.specs.Doors.{test_size, roomy}
 use Rattle.sessiondoors.specs.Doors as doors
@@ -23,7 +22,7 @@ one_short w b t = go (leb session_words (length w)) (leb session_bytes (length b
     go false y z e f g h = inl (leb-false _ _ e)
     go true false z e f g h = inr (inl (leb-false _ _ f))
     go true true false e f g h = inr (inr (leb-false _ _ g))
-    go true true true e f g h = clash (cc)
+    go true true true e f g h = cc
 
 never : (x : Bool) → (x && false) ≡ false
 never true = refl

@@ -1,12 +1,11 @@
 -- Of one input each function has one answer, and leaves one content of each memory. Assumes nothing.
+use Rattle.std.specs.Prelude.{Ok, Err}
 use mathlib.Core.Path.{◌≡◌, refl, sym, ap, ◌∙◌}
 use mathlib.Core.Bool.{Bool, true, false}
-use Rattle.table.proofs.Checks.{clash}
 use Rattle.table.specs.declared.answer.Refusal.{Refusal}
-use Rattle.table.specs.declared.answer.Test.{Test}
-use Rattle.table.specs.declared.answer.Test.TheVariants.{Passed, Refused}
+use Rattle.table.specs.Test.{Test}
 use Rattle.session.specs.declared.Opened.{Opened}
-use Rattle.monitor.specs.declared.feed.Fed.{Fed}
+use Rattle.monitor.specs.Fed.{Fed}
 use Rattle.monitor.proofs.Laws.{one_feed}
 use Rattle.lent.specs.Lent.{front}
 use Rattle.sessiondoors.specs.Layout.{words_of, bytes_of, session_in}
@@ -16,11 +15,11 @@ use Rattle.sessiondoors.specs.Laws.{OneOpening, OneFeeding}
 
 -- memory is not both too short and long enough
 pub not_both : {A : Type 0} {r : Bool} → r ≡ false → r ≡ true → A
-not_both e f = let h = sym e ∙ f in clash (cc)
+not_both e f = cc
 
 -- nothing is both passed and refused
-not_passed : {A : Type 0} {t : Test} {why : Refusal} → t ≡ Refused why → t ≡ Passed → A
-not_passed e f = let h = sym f ∙ e in clash (cc)
+not_passed : {A : Type 0} {t : Test} {why : Refusal} → t ≡ Err why → t ≡ Ok tt → A
+not_passed e f = cc
 
 pub one_opening : OneOpening
 one_opening rows s i o B c w b t a₁ a₂ w₁ b₁ t₁ w₂ b₂ t₂ (doors.short e) (doors.short e') = (refl, refl, refl, refl)

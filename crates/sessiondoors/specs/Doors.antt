@@ -1,11 +1,10 @@
 -- What each function of this crate answers and leaves in the memory lent to it, for every input. Its answer is false exactly when memory
 -- is shorter than its layout, and then nothing is written. What is longer keeps the rest. Assumes nothing.
-use Rattle.std.specs.Prelude.{◌≡◌, Bool, true, false, ◌&&◌, List, ℕ, leb, length}
+use Rattle.std.specs.Prelude.{◌≡◌, Bool, true, false, ◌&&◌, List, ℕ, leb, length, Ok, Err}
 use Rattle.table.specs.declared.answer.Refusal.{Refusal}
-use Rattle.table.specs.declared.answer.Test.{Test}
-use Rattle.table.specs.declared.answer.Test.TheVariants.{Passed, Refused}
+use Rattle.table.specs.Test.{Test}
 use Rattle.session.specs.declared.Opened.{Opened}
-use Rattle.monitor.specs.declared.feed.Fed.{Fed}
+use Rattle.monitor.specs.Fed.{Fed}
 use Rattle.session.specs.Open.{opened}
 use Rattle.monitor.specs.Feed.{Feeds}
 use Rattle.lent.specs.Lent.{front}
@@ -27,9 +26,9 @@ roomy words bytes told = leb session_words (length words) && (leb session_bytes 
 -- they were": what lay in words and bytes lies there still.
 pub data Opens (rows : List ℕ) (s i o B c : ℕ) (words bytes told : List ℕ) : Bool → List ℕ → List ℕ → List ℕ → Type 0 where
   short : roomy words bytes told ≡ false → Opens rows s i o B c words bytes told false words bytes told
-  refused : {r : Opened} {why : Refusal} → roomy words bytes told ≡ true → r ≡ opened rows s i o B c → r.test ≡ Refused why
+  refused : {r : Opened} {why : Refusal} → roomy words bytes told ≡ true → r ≡ opened rows s i o B c → r.test ≡ Err why
       → Opens rows s i o B c words bytes told true words bytes (front told (test_results r.test))
-  opens : {r : Opened} → roomy words bytes told ≡ true → r ≡ opened rows s i o B c → r.test ≡ Passed
+  opens : {r : Opened} → roomy words bytes told ≡ true → r ≡ opened rows s i o B c → r.test ≡ Ok tt
       → Opens rows s i o B c words bytes told true (front words (words_of r.session)) (front bytes (bytes_of r.session)) (front told (test_results r.test))
 
 -- Feeding: the session that lies in the memory is fed, and what it became lies there.

@@ -19,46 +19,12 @@ const SEEN: usize = 264;
 
 // READING
 
-// The set, of the words from the start on.
-fn set_in(words: &[u64]) -> [u64; 264]
-    requires { 264 ≤ length words.now }
-    ensures { result ≡ take 264 words.now }
+// The first elements, as many as the array has.
+fn first<T: Copy, const N: usize>(elements: &[T]) -> [T; N]
+    requires { N ≤ length elements.now }
+    ensures { result ≡ take N elements.now }
 {
-    let mut set = [0u64; 264];
-    let mut i: usize = 0;
-    while i < 264 {
-        set[i] = words[i];
-        i += 1;
-    }
-    set
-}
-
-// The rows, of the bytes from the start on.
-fn rows_in(bytes: &[u8]) -> [u8; 2048]
-    requires { 2048 ≤ length bytes.now }
-    ensures { result ≡ take 2048 bytes.now }
-{
-    let mut rows = [0u8; 2048];
-    let mut i: usize = 0;
-    while i < 2048 {
-        rows[i] = bytes[i];
-        i += 1;
-    }
-    rows
-}
-
-// The held inputs, of the bytes from their place on.
-fn held_in(bytes: &[u8]) -> [u8; 32]
-    requires { 32 ≤ length bytes.now }
-    ensures { result ≡ take 32 bytes.now }
-{
-    let mut held = [0u8; 32];
-    let mut i: usize = 0;
-    while i < 32 {
-        held[i] = bytes[i];
-        i += 1;
-    }
-    held
+    *<&[T; N]>::try_from(&elements[..N]).unwrap()
 }
 
 // The session that the words and the bytes are.
@@ -67,9 +33,9 @@ pub(crate) fn session_in(words: &[u64], bytes: &[u8]) -> Session
     ensures value { result ≡ session_in words.now bytes.now }
     ensures flag_bound { flag_word result.flag < 2 ^ 64 }
 {
-    let set = set_in(words);
-    let rows = rows_in(bytes);
-    let held = held_in(&bytes[HELD..COUNTS]);
+    let set = first(words);
+    let rows = first(bytes);
+    let held = first(&bytes[HELD..COUNTS]);
     let flag = figures::flag_in(words[SEEN + 2]);
     Session {
         states: bytes[COUNTS],
@@ -89,32 +55,34 @@ pub(crate) fn session_in(words: &[u64], bytes: &[u8]) -> Session
 // WRITING
 
 // Puts a session's words at the start of the memory; the rest of it stays.
-pub(crate) fn put_words(words: &mut [u64], s: Session)
-    requires { (session_words ≤ length words.old) × (flag_word s.flag < 2 ^ 64) }
-    ensures { words.new ≡ front words.old (words_of s) }
+pub(crate) fn put_words(words: &mut [u64], s: &Session)
+    requires { (session_words ≤ length words.old) × (flag_word s.now.flag < 2 ^ 64) }
+    ensures { words.new ≡ front words.old (words_of s.now) }
 {
-    let flag = s.flag;
-    let seen = [s.events as u64, s.arrived as u64, figures::flag_word(flag)];
-    lent::put_words(&s.set, &mut *words, 0);
-    lent::put_words(&seen, &mut *words, SEEN);
+    let flag = figures::flag_word(s.flag);
+    let seen = [s.events as u64, s.arrived as u64, flag];
+    lent::put(&s.set, words, 0);
+    lent::put(&seen, words, SEEN);
 }
 
 // Puts a session's bytes at the start of the memory; the rest of it stays.
-pub(crate) fn put_bytes(bytes: &mut [u8], s: Session)
+pub(crate) fn put_bytes(bytes: &mut [u8], s: &Session)
     requires { session_bytes ≤ length bytes.old }
-    ensures { bytes.new ≡ front bytes.old (bytes_of s) }
+    ensures { bytes.new ≡ front bytes.old (bytes_of s.now) }
 {
     let counts = [s.states, s.inputs, s.outputs, s.waiting, s.losses];
-    lent::put_bytes(&s.rows, &mut *bytes, 0);
-    lent::put_bytes(&s.held, &mut *bytes, HELD);
-    lent::put_bytes(&counts, &mut *bytes, COUNTS);
+    // A copy of these few: of bytes that lie in a session, the compiler would keep a second session on the stack.
+    let held = s.held;
+    lent::put(&s.rows, bytes, 0);
+    lent::put(&held, bytes, HELD);
+    lent::put(&counts, bytes, COUNTS);
 }
 
 // Puts held inputs at their place; the rest of the memory stays. Of a session's bytes a feed changes no others: to put them all back would
 // take a second copy of the rows.
-pub(crate) fn put_held(bytes: &mut [u8], held: [u8; 32])
+pub(crate) fn put_held(bytes: &mut [u8], held: &[u8; 32])
     requires { session_bytes ≤ length bytes.old }
-    ensures { bytes.new ≡ put_at bytes.old 2048 held }
+    ensures { bytes.new ≡ put_at bytes.old 2048 held.now }
 {
-    lent::put_bytes(&held, &mut *bytes, HELD);
+    lent::put(held, bytes, HELD);
 }

@@ -10,35 +10,30 @@ ghost use Rattle.sessiondoors.specs.Layout.{session_words, session_bytes};
 ghost use Rattle.sessiondoors.specs.Doors.{test_size, test_results, Opens, Feeding};
 
 use monitor::feed;
-use table::Test;
+use table::{Refusal, Rules, Told};
 
 mod layout;
 
 // How many words the results of opening and feeding are.
 const TEST: usize = 3;
 
-// Which of them is a refusal's number: 0 where nothing is refused.
-const NUMBER: usize = 0;
-
 // Whether memory of these lengths has room for a session and for the results of opening and feeding.
 fn roomy(words: usize, bytes: usize, told: usize) -> bool
     ensures { result ≡ (leb session_words words && (leb session_bytes bytes && leb test_size told)) }
 {
-    if words < layout::WORDS {
-        return false;
-    }
-    if bytes < layout::BYTES {
-        return false;
-    }
-    TEST <= told
+    layout::WORDS <= words && layout::BYTES <= bytes && TEST <= told
 }
 
 // The results of opening and feeding.
-fn of_test(test: Test) -> [u64; 3]
+fn of_test(test: Result<(), Refusal>) -> [u64; 3]
     ensures { result ≡ test_results test }
 {
-    let t = figures::told(test);
-    [t.number as u64, t.place as u64, t.second as u64]
+    let told = Told::of(test);
+    [
+        u64::from(told.number),
+        told.place as u64,
+        told.second as u64,
+    ]
 }
 
 // Opens a session in the memory lent. Where it is refused, the results alone are written: a session that lies there goes on.
@@ -59,16 +54,22 @@ pub extern "C" fn rillmoth_open(
     if !roomy(words.len(), bytes.len(), told.len()) {
         return false;
     }
-    let opened = session::open(rows, states, inputs, outputs, waiting, losses);
+    let rules = Rules {
+        rows,
+        states,
+        inputs,
+        outputs,
+        waiting,
+        losses,
+    };
+    let opened = session::open(&rules);
     let test = opened.test;
-    let results = of_test(test);
-    lent::put_words(&results, &mut *told, 0);
-    if results[NUMBER] != 0 {
+    lent::put(&of_test(test), told, 0);
+    if test.is_err() {
         return true;
     }
-    let s = opened.session;
-    layout::put_words(&mut *words, s);
-    layout::put_bytes(&mut *bytes, s);
+    layout::put_words(words, &opened.session);
+    layout::put_bytes(bytes, &opened.session);
     true
 }
 
@@ -85,11 +86,10 @@ pub extern "C" fn rillmoth_feed(
     if !roomy(words.len(), bytes.len(), told.len()) {
         return false;
     }
-    let mut s = layout::session_in(&*words, &*bytes);
-    let test = feed::advance(&mut s, byte);
-    layout::put_words(&mut *words, s);
-    let held = s.held;
-    layout::put_held(&mut *bytes, held);
-    lent::put_words(&of_test(test), &mut *told, 0);
+    let mut s = layout::session_in(words, bytes);
+    let test = feed::feed(&mut s, byte);
+    layout::put_words(words, &s);
+    layout::put_held(bytes, &s.held);
+    lent::put(&of_test(test), told, 0);
     true
 }

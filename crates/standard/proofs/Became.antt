@@ -1,14 +1,13 @@
 -- What became of the standard box when it began to repeat its report: sixteen entries changed and no other. Assumes nothing.
+use Rattle.std.specs.Prelude.{Option, Some}
 use mathlib.Core.Path.{◌≡◌, refl}
-use mathlib.Core.Bool.{Bool, true, false, cond, ◌&&◌}
+use mathlib.Core.Bool.{Bool, true, false, cond, ◌&&◌, and-eq-true_iff}
 use mathlib.Core.Logic.{◌↔◌}
-use mathlib.Core.Option.{Option, some}
 use Prim.Native.Nat.{ℕ, ◌+◌, ◌-◌, ◌*◌, ◌%◌, ◌<◌}
 use native.Mathlib.Omega.{arith}
 use lib.Dec.{ltb, eqb, lit<}
 use borrow.Author.Tests.{ltb-true, lt-ltb, eqb-true, eq-eqb}
 use Rattle.model.specs.Table.{entry}
-use Rattle.table.proofs.Checks.{clash, both}
 use Rattle.standard.specs.Rule as now
 use Rattle.standard.specs.Rule.{states, numbers, after_output}
 use Rattle.standard.specs.Box.{columns, in_place, standard_rows, standard_table}
@@ -34,7 +33,7 @@ unfoldable again : ℕ → ℕ → Bool
 again s k = ltb s numbers && eqb k ((s + numbers - 1) % numbers)
 
 abbrev fits : ℕ → Bool → Option ℕ → Option ℕ → Bool
-fits s changes was is = cond changes (same was (some s) && same is (some (s + numbers))) (same was is)
+fits s changes was is = cond changes (same was (Some s) && same is (Some (s + numbers))) (same was is)
 
 tested : every (in_place (λ s k. fits s (again s k) (before.rule s k) (now.rule s k))) 0 (states * columns) ≡ true
 unfolding again before.rule before.after_input now.rule now.after_input after_output
@@ -44,16 +43,16 @@ again_decides : (s k : ℕ) → again s k ≡ true ↔ Again s k
 unfolding again
 again_decides s k = (
   λ t.
-      let (l, e) = both (ltb s numbers) (eqb k ((s + numbers - 1) % numbers)) t in
+      let (l, e) = (and-eq-true_iff (ltb s numbers) (eqb k ((s + numbers - 1) % numbers))).0 t in
       (ltb-true s numbers l, eqb-true k ((s + numbers - 1) % numbers) e),
   λ (l, e). simp (lt-ltb s numbers l, eq-eqb k ((s + numbers - 1) % numbers) e),
 )
 
 became : (s k : ℕ) (changes : Bool) (was is : Option ℕ) → changes ≡ true ↔ Again s k → fits s changes was is ≡ true → Became s k was is
 became s k true was is (to, from) t =
-    let (b, n) = both (same was (some s)) (same is (some (s + numbers))) t in
-    let was_s : was ≡ some s = same_equal was (some s) b in
-    let is_s : is ≡ some (s + numbers) = same_equal is (some (s + numbers)) n in
+    let (b, n) = (and-eq-true_iff (same was (Some s)) (same is (Some (s + numbers)))).0 t in
+    let was_s : was ≡ Some s = same_equal was (Some s) b in
+    let is_s : is ≡ Some (s + numbers) = same_equal is (Some (s + numbers)) n in
     record {
       exactly = (λ differ. to refl, λ g e. let moved : s ≡ s + numbers = cc in omega arith);
       changes = λ g. (was_s, is_s);
@@ -62,8 +61,8 @@ became s k true was is (to, from) t =
 became s k false was is (to, from) t =
     let equal : was ≡ is = same_equal was is t in
     record {
-      exactly = (λ differ. absurd (differ equal), λ g. clash (cc (from g)));
-      changes = λ g. clash (cc (from g));
+      exactly = (λ differ. absurd (differ equal), λ g. cc (from g));
+      changes = λ g. cc (from g);
       stays = λ other. equal;
     }
 
@@ -81,15 +80,15 @@ sixteen_change = refl
 
 -- NEITHER IS WIDER: row 1, input 0 was 1 and is 17.
 
-was_one : entry table_before 1 0 ≡ some 1
+was_one : entry table_before 1 0 ≡ Some 1
 unfolding before.rule before.after_input
 was_one = every_entry_before 1 0 (lit< tt) (lit< tt)
 
-is_seventeen : entry standard_table 1 0 ≡ some 17
+is_seventeen : entry standard_table 1 0 ≡ Some 17
 unfolding now.rule now.after_input
 is_seventeen = every_entry 1 0 (lit< tt) (lit< tt)
 
-apart : (x : Option ℕ) → x ≡ some 1 → x ≡ some 17 → ⊥
+apart : (x : Option ℕ) → x ≡ Some 1 → x ≡ Some 17 → ⊥
 apart x one seventeen = let moved : ◌≡◌ {A = ℕ} 1 17 = cc in omega arith
 
 pub neither_wider : NeitherWider

@@ -1,8 +1,8 @@
 -- The entries of the standard box are the rule's; and so it is with the rows of every rule whose next states are states. Assumes nothing.
+use Rattle.std.specs.Prelude.{Option, Some, None}
 use mathlib.Core.Path.{◌≡◌, refl, ◌∙◌, sym}
 use mathlib.Core.Bool.{Bool, true, cond}
 use mathlib.Core.List.{List}
-use mathlib.Core.Option.{Option, some, none}
 use Prim.Native.Nat.{ℕ, ◌+◌, ◌*◌, ◌<◌}
 use native.Mathlib.Omega.{arith}
 use native.Mathlib.Nat.{zero-add}
@@ -27,8 +27,8 @@ carried test t s k h l = sym (placed test s k l) ∙ at (in_place test) 0 (state
 
 -- Each next state is a state.
 unfoldable pub inside : Option ℕ → Bool
-inside none = true
-inside (some t) = ltb t states
+inside None = true
+inside (Some t) = ltb t states
 
 abbrev pub AllInside : (ℕ → ℕ → Option ℕ) → Type 0
 AllInside f = every (in_place (λ s k. inside (f s k))) 0 (states * columns) ≡ true
@@ -48,10 +48,10 @@ byte_written f s k h l =
     listed_at (in_place (λ s k. written (f s k))) 0 (states * columns) (s * columns + k) 255 (digits_lt h l)
     ∙ placed (λ s k. written (f s k)) s k l
 
-read_back : (x : Option ℕ) → inside x ≡ true → cond (eqb (written x) 255) none (some (written x)) ≡ x
+read_back : (x : Option ℕ) → inside x ≡ true → cond (eqb (written x) 255) None (Some (written x)) ≡ x
 unfolding inside
-read_back none t = refl
-read_back (some s) t = rw (ne_eqb s 255 (λ e. omega (arith, ltb-true s states t)))
+read_back None t = refl
+read_back (Some s) t = rw (ne_eqb s 255 (λ e. omega (arith, ltb-true s states t)))
 
 pub entry_by : (f : ℕ → ℕ → Option ℕ) → AllInside f → (s k : ℕ) → s < states → k < columns → entry (table_by f) s k ≡ f s k
 unfolding entry

@@ -1,18 +1,17 @@
 -- Every statement of specs/Laws.antt, proved: other crates take the laws from here; and what became of the entries of document 01, whose
 -- statements stand in specs/Before.antt with the rule of that time. Assumes nothing.
+use Rattle.std.specs.Prelude.{Some}
 use mathlib.Core.Path.{◌≡◌, refl, ◌∙◌, sym}
 use mathlib.Core.Bool.{Bool, true, ◌&&◌, and-eq-true_iff}
 use mathlib.Core.List.Memᴰ.{cases_cons}
 use mathlib.Core.List.Memᴰ.{not-nil}
 use mathlib.Core.List.{List, [], ◌∷◌, Memᴰ as In}
 use mathlib.Core.Logic.{⊎_elim}
-use mathlib.Core.Option.{some}
 use Prim.Native.Nat.{ℕ, ◌+◌, ◌-◌, ◌%◌}
 use native.Mathlib.Omega.{arith}
 use lib.Dec.{T, ltb, eqb, lit<}
 use borrow.Author.Tests.{lt-ltb, le-ltb, ltb-true, eqb-true, eq-eqb}
 use Rattle.model.specs.Table.{entry}
-use Rattle.table.proofs.Checks.{both}
 use Rattle.table.proofs.Laws.{table_passes}
 use Rattle.standard.specs.Rule.{states, inputs, outputs, numbers, state, expected, unreported, after_input, after_output, rule}
 use Rattle.standard.specs.Box.{columns, standard_table}
@@ -42,7 +41,7 @@ unfoldable last : ℕ → ℕ
 last e = (e + numbers - 1) % numbers
 
 abbrev repeats : ℕ → Bool
-repeats e = same (after_input e 0 (last e)) (some (e + numbers)) && same (after_output e 1 (last e)) (some e)
+repeats e = same (after_input e 0 (last e)) (Some (e + numbers)) && same (after_output e 1 (last e)) (Some e)
 
 tested : every repeats 0 numbers ≡ true
 unfolding last after_input after_output
@@ -54,9 +53,9 @@ every_report e h =
     let none_left : state e 0 ≡ e = omega arith in
     let here : 0 + e ≡ e = omega arith in
     let test : repeats e ≡ true = rw here at (at repeats 0 numbers e tested h) in
-    let (asked, sent) = both (same (after_input e 0 (last e)) (some (e + numbers))) (same (after_output e 1 (last e)) (some e)) test in
-    let asks : after_input e 0 (last e) ≡ some (e + numbers) = same_equal (after_input e 0 (last e)) (some (e + numbers)) asked in
-    let sends : after_output e 1 (last e) ≡ some e = same_equal (after_output e 1 (last e)) (some e) sent in
+    let (asked, sent) = (and-eq-true_iff (same (after_input e 0 (last e)) (Some (e + numbers))) (same (after_output e 1 (last e)) (Some e))).0 test in
+    let asks : after_input e 0 (last e) ≡ Some (e + numbers) = same_equal (after_input e 0 (last e)) (Some (e + numbers)) asked in
+    let sends : after_output e 1 (last e) ≡ Some e = same_equal (after_output e 1 (last e)) (Some e) sent in
     record {
       asked = rw none_left at ((every_state e 0 h (omega arith)).input (last e) (omega arith)) ∙ asks;
       sent = (every_state e 1 h (omega arith)).output (last e) (omega arith) ∙ sends;

@@ -1,13 +1,12 @@
 -- What stands in a list of values, and a test of every value that the checker computes, carried to each. Assumes nothing.
+use Rattle.std.specs.Prelude.{Option, Some, None}
 use mathlib.Core.Path.{◌≡◌, refl, ap}
 use mathlib.Core.Bool.{Bool, true, false, ◌&&◌, and-eq-true_iff}
-use mathlib.Core.Option.{Option, some, none}
 use Prim.Native.Nat.{ℕ, zero, suc, ◌+◌, ◌<◌}
 use native.Mathlib.Omega.{arith}
 use lib.Dec.{eqb}
 use lib.ListN.{length, get_or}
 use borrow.Author.Tests.{eqb-true}
-use Rattle.table.proofs.Checks.{clash}
 use Rattle.standard.specs.Box.{listed}
 
 pub listed_length : (f : ℕ → ℕ) (i n : ℕ) → length (listed f i n) ≡ n
@@ -35,13 +34,13 @@ at test i (suc n) (suc k) t h =
 
 -- Whether two entries are the same.
 abbrev pub same : Option ℕ → Option ℕ → Bool
-same none none = true
-same none (some b) = false
-same (some a) none = false
-same (some a) (some b) = eqb a b
+same None None = true
+same None (Some b) = false
+same (Some a) None = false
+same (Some a) (Some b) = eqb a b
 
 pub same_equal : (x y : Option ℕ) → same x y ≡ true → x ≡ y
-same_equal none none t = refl
-same_equal none (some b) t = clash (cc)
-same_equal (some a) none t = clash (cc)
-same_equal (some a) (some b) t = ap some (eqb-true a b t)
+same_equal None None t = refl
+same_equal None (Some b) t = cc
+same_equal (Some a) None t = cc
+same_equal (Some a) (Some b) t = ap Some (eqb-true a b t)

@@ -1,7 +1,6 @@
 -- The standard box as it was before it repeated its report: document 01's rule for inputs, word for word, and the table of that time. They
 -- stand here for the statements at the end, and for nothing else. The rule for outputs is that of today. Assumes nothing.
-use Rattle.std.specs.Prelude.{◌≡◌, cond, List, [], ◌∷◌, ◌↔◌, ℕ, ◌+◌, ◌-◌, ◌*◌, ◌%◌, ◌<◌, ltb, eqb}
-use Rattle.std.proofs.Math.Option.{Option, some, none}
+use Rattle.std.specs.Prelude.{◌≡◌, cond, List, [], ◌∷◌, ◌↔◌, ℕ, ◌+◌, ◌-◌, ◌*◌, ◌%◌, ◌<◌, ltb, eqb, Option, Some, None}
 use Rattle.model.specs.Table.{Table, entry}
 use Rattle.model.specs.Demands.{Wider}
 use Rattle.standard.specs.Rule.{states, inputs, outputs, numbers, most_unreported, state, expected, unreported, after_output}
@@ -11,7 +10,7 @@ use Rattle.standard.specs.Box.{written, listed, columns, in_place, standard_rows
 -- from e, the state stays.
 unfoldable pub after_input : ℕ → ℕ → ℕ → Option ℕ
 after_input e p a =
-    cond (eqb a e) (cond (ltb p most_unreported) (some (state ((e + 1) % numbers) (p + 1))) none) (some (state e p))
+    cond (eqb a e) (cond (ltb p most_unreported) (Some (state ((e + 1) % numbers) (p + 1))) None) (Some (state e p))
 
 unfoldable pub rule : ℕ → ℕ → Option ℕ
 rule s k =
@@ -32,7 +31,7 @@ Again s k = (s < numbers) × (k ≡ (s + numbers - 1) % numbers)
 -- What an entry was, and what it is: it changes exactly there, from s to s + 16; other entries stay.
 pub record Became (s k : ℕ) (was now : Option ℕ) : Type 0 where
   pub exactly : (was ≡ now → ⊥) ↔ Again s k
-  pub changes : Again s k → (was ≡ some s) × (now ≡ some (s + numbers))
+  pub changes : Again s k → (was ≡ Some s) × (now ≡ Some (s + numbers))
   pub stays : (Again s k → ⊥) → was ≡ now
 
 abbrev pub OtherEntriesStay : Type 0

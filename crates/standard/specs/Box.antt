@@ -1,13 +1,12 @@
 -- The rows of the standard box, and its table. Assumes nothing.
-use Rattle.std.specs.Prelude.{Bool, ◌&&◌, List, [], ◌∷◌, ℕ, zero, suc, ◌+◌, ◌*◌, ◌/◌, ◌%◌, eqb}
-use Rattle.std.proofs.Math.Option.{Option, some, none}
+use Rattle.std.specs.Prelude.{Bool, ◌&&◌, List, [], ◌∷◌, ℕ, zero, suc, ◌+◌, ◌*◌, ◌/◌, ◌%◌, eqb, Option, Some, None}
 use Rattle.model.specs.Table.{Table}
 use Rattle.standard.specs.Rule.{states, inputs, outputs, rule}
 
 -- A next state, or 255 for "not allowed here".
 abbrev pub written : Option ℕ → ℕ
-written none = 255
-written (some s) = s
+written None = 255
+written (Some s) = s
 
 -- The values of f at the n places from i on.
 abbrev pub listed : (ℕ → ℕ) → ℕ → ℕ → List ℕ

@@ -1,11 +1,9 @@
 -- What is shown of the standard box, each under one sentence: callers go by these. proofs/Laws.antt proves them all. Assumes nothing.
-use Rattle.std.specs.Prelude.{◌≡◌, true, ◌↔◌, ℕ, ◌+◌, ◌-◌, ◌%◌, ◌≤◌, ◌<◌, length}
+use Rattle.std.specs.Prelude.{◌≡◌, true, ◌↔◌, ℕ, ◌+◌, ◌-◌, ◌%◌, ◌≤◌, ◌<◌, length, Option, Some, None, Ok}
 use mathlib.Core.List.{List, [], ◌∷◌, Memᴰ as In}
-use Rattle.std.proofs.Math.Option.{Option, some, none}
 use Rattle.model.specs.Table.{entry, Valid}
 use Rattle.model.specs.Model.{box, Event, input, output}
 use Rattle.table.specs.Tests.{counts_test, length_test, entries_test}
-use Rattle.table.specs.declared.answer.Test.TheVariants.{Passed}
 use Rattle.standard.specs.Rule.{states, inputs, outputs, numbers, most_unreported, state, after_input, after_output, rule}
 use Rattle.standard.specs.Box.{columns, standard_rows, standard_table, standard_counts}
 
@@ -23,8 +21,8 @@ EveryState = (e p : ℕ) → e < numbers → p ≤ most_unreported → Follows e
 
 -- Document 02: in row e, with nothing unreported, input (e − 1) modulo 16 gives e + 16, for row 0 too; and there the box sends that report.
 pub record Repeats (e a : ℕ) : Type 0 where
-  pub asked : (box standard_table).taken e a ≡ some (e + numbers)
-  pub sent : (box standard_table).sent (e + numbers) a ≡ some e
+  pub asked : (box standard_table).taken e a ≡ Some (e + numbers)
+  pub sent : (box standard_table).sent (e + numbers) a ≡ Some e
 
 abbrev pub EveryReport : Type 0
 EveryReport = (e : ℕ) → e < numbers → Repeats e ((e + numbers - 1) % numbers)
@@ -35,9 +33,9 @@ IsValid = Valid standard_table
 
 -- so an opening turns it away neither for its counts, nor for its length, nor for an entry.
 pub record Passes : Type 0 where
-  pub counts : counts_test states inputs outputs ≡ Passed
-  pub length : length_test (length standard_rows) states inputs outputs ≡ Passed
-  pub entries : entries_test standard_table ≡ Passed
+  pub counts : counts_test states inputs outputs ≡ Ok tt
+  pub length : length_test (length standard_rows) states inputs outputs ≡ Ok tt
+  pub entries : entries_test standard_table ≡ Ok tt
 
 -- The counts are tested as 64, 16, 16.
 abbrev pub OnlyCounts : Type 0
@@ -56,12 +54,12 @@ cite s e t = record { row = s; symbol = e; next = t }
 -- input 0 is 255; row 48, input 5 gives 48.
 unfoldable pub cited : List Citation
 cited =
-    cite 0 (input 0) (some 17)
-    ∷ cite 17 (output 0) (some 1)
-    ∷ cite 1 (input 0) (some 17)
-    ∷ cite 48 (output 13) (some 32)
-    ∷ cite 48 (input 0) none
-    ∷ cite 48 (input 5) (some 48)
+    cite 0 (input 0) (Some 17)
+    ∷ cite 17 (output 0) (Some 1)
+    ∷ cite 1 (input 0) (Some 17)
+    ∷ cite 48 (output 13) (Some 32)
+    ∷ cite 48 (input 0) None
+    ∷ cite 48 (input 5) (Some 48)
     ∷ []
 
 -- A row has a column for each input, then one for each output.

@@ -1,6 +1,5 @@
 -- Document 01, "The standard box", and document 02, L5: its rule, sentence by sentence. Assumes nothing.
-use Rattle.std.specs.Prelude.{cond, ◌&&◌, ℕ, ◌+◌, ◌-◌, ◌*◌, ◌/◌, ◌%◌, ltb, eqb}
-use Rattle.std.proofs.Math.Option.{Option, some, none}
+use Rattle.std.specs.Prelude.{cond, ◌&&◌, ℕ, ◌+◌, ◌-◌, ◌*◌, ◌/◌, ◌%◌, ltb, eqb, Option, Some, None}
 
 -- 64 states, 16 inputs, 16 outputs.
 abbrev pub states : ℕ
@@ -40,11 +39,11 @@ after_other e p a = cond (eqb p 0 && eqb a ((e + numbers - 1) % numbers)) (state
 -- from e, as above.
 unfoldable pub after_input : ℕ → ℕ → ℕ → Option ℕ
 after_input e p a =
-    cond (eqb a e) (cond (ltb p most_unreported) (some (state ((e + 1) % numbers) (p + 1))) none) (some (after_other e p a))
+    cond (eqb a e) (cond (ltb p most_unreported) (Some (state ((e + 1) % numbers) (p + 1))) None) (Some (after_other e p a))
 
 -- Output b: if p > 0 and b = (e − p) modulo 16, p falls by one; otherwise not allowed. A difference here ends at 0, so 16 is added first.
 unfoldable pub after_output : ℕ → ℕ → ℕ → Option ℕ
-after_output e p b = cond (ltb 0 p && eqb b ((e + numbers - p) % numbers)) (some (state e (p - 1))) none
+after_output e p b = cond (ltb 0 p && eqb b ((e + numbers - p) % numbers)) (Some (state e (p - 1))) None
 
 -- The rule at row s and column k: a column for each input, then one for each output.
 unfoldable pub rule : ℕ → ℕ → Option ℕ

@@ -19,7 +19,7 @@ pub const LENGTH: usize = STATES * (INPUTS + OUTPUTS);
 pub fn counts(states: usize, inputs: usize, outputs: usize) -> bool
     ensures { result ≡ standard_counts states inputs outputs }
 {
-    (states == STATES) & (inputs == INPUTS) & (outputs == OUTPUTS)
+    states == STATES && inputs == INPUTS && outputs == OUTPUTS
 }
 
 // The rows, one after another. Callers take them from here: each function that names the constant pays for it again in the check.

@@ -1,7 +1,6 @@
 -- Every statement of specs/Laws.antt, proved. Assumes nothing.
-use mathlib.Core.Path.{◌≡◌, refl, sym, ◌∙◌}
+use mathlib.Core.Path.{◌≡◌, refl}
 use mathlib.Core.Bool.{Bool, true, false}
-use Rattle.table.proofs.Checks.{clash}
 use lib.ListN.{length}
 use borrow.Author.Tests.{leb-false, lt-leb}
 use Rattle.standarddoors.specs.Results.{rows_size}
@@ -10,7 +9,7 @@ use Rattle.standarddoors.specs.Laws.{GivingFalse, GivingFalseKeeps, OneGiving}
 
 -- memory is not both too short and long enough
 not_both : {A : Type 0} {r : Bool} → r ≡ false → r ≡ true → A
-not_both e f = let h = sym e ∙ f in clash (cc)
+not_both e f = cc
 
 pub giving_false : GivingFalse
 giving_false d a d' (doors.short e) = (λ _. leb-false rows_size (length d) e, λ _. refl)

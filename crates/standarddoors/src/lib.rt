@@ -13,6 +13,6 @@ pub extern "C" fn rillmoth_standard(rows: &mut [u8]) -> bool
     if rows.len() < standard::LENGTH {
         return false;
     }
-    lent::put_bytes(&standard::rows(), &mut *rows, 0);
+    lent::put(&standard::rows(), rows, 0);
     true
 }

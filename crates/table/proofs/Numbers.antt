@@ -1,4 +1,5 @@
 -- Which number a test tells, and when: the laws of specs/Numbers.antt. Assumes nothing.
+use Rattle.std.specs.Prelude.{Option, Some, None, Ok, Err}
 use mathlib.Core.Path.{◌≡◌, refl, sym, ◌∙◌, ap}
 use mathlib.Core.Bool.{Bool, true, false, cond}
 use mathlib.Core.List.Memᴰ.{cases_cons}
@@ -7,7 +8,6 @@ use mathlib.Core.List.Memᴰ.{not-nil}
 use mathlib.Core.List.Memᴰ.{tail as in_tail}
 use mathlib.Core.List.{List, [], ◌∷◌, Memᴰ as In}
 use mathlib.Core.Logic.{◌↔◌, ◌⊎◌, inl, inr, ⊎_elim}
-use mathlib.Core.Option.{Option, some, none}
 use Prim.Native.Nat.{ℕ, ◌+◌, ◌*◌, ◌≤◌, ◌<◌}
 use native.Mathlib.Omega.{arith}
 use lib.Dec.{eqb}
@@ -25,9 +25,8 @@ use Rattle.table.specs.declared.answer.Refusal.{Refusal}
 use Rattle.table.specs.declared.answer.Refusal.TheVariants.{Rows, States, Symbols, Entry, Waiting, Losses}
 use Rattle.table.specs.declared.answer.Refusal.TheVariants as refusal
 use Rattle.table.specs.declared.answer.Symbol.{Symbol}
-use Rattle.table.specs.declared.answer.Symbol.TheVariants.{Input, Output, Invalid}
-use Rattle.table.specs.declared.answer.Test.{Test}
-use Rattle.table.specs.declared.answer.Test.TheVariants.{Passed, Refused}
+use Rattle.table.specs.declared.answer.Symbol.TheVariants.{Input, Output}
+use Rattle.table.specs.Test.{Test}
 use Rattle.table.specs.declared.answer.Told.{Told}
 use Rattle.table.proofs.Checks.{clash}
 use Rattle.table.proofs.Passing.{up_to_limit}
@@ -37,14 +36,14 @@ use Rattle.table.proofs.Symbols.{symbol_means, given_means}
 
 -- WHAT IS TOLD
 
-inside : {a b : Told} → ◌≡◌ {A = Option Told} (some a) (some b) → a ≡ b
+inside : {a b : Told} → ◌≡◌ {A = Option Told} (Some a) (Some b) → a ≡ b
 inside e = cc
 
 -- a refusal tells its own figures
-pub tells : {r : Refusal} {n p q : ℕ} → told r ≡ record { number = n; place = p; second = q } → Tells (Refused r) n p q
-tells e = record { is = ap (λ (t : Told). some t) e }
+pub tells : {r : Refusal} {n p q : ℕ} → told r ≡ record { number = n; place = p; second = q } → Tells (Err r) n p q
+tells e = record { is = ap (λ (t : Told). Some t) e }
 
-pub figures : {r : Refusal} {n p q : ℕ} → Tells (Refused r) n p q → told r ≡ record { number = n; place = p; second = q }
+pub figures : {r : Refusal} {n p q : ℕ} → Tells (Err r) n p q → told r ≡ record { number = n; place = p; second = q }
 figures t = inside t.is
 
 same_figures : {n p q n' p' q' : ℕ}
@@ -56,21 +55,21 @@ pub passed_tells_none : PassedTellsNone
 passed_tells_none n p q t = clash (let e = t.is in cc)
 
 pub passes_or_tells : PassesOrTells
-passes_or_tells Passed = inl refl
-passes_or_tells (Refused r) = inr ((told r).number, (told r).place, (told r).second, tells refl)
+passes_or_tells (Ok _) = inl refl
+passes_or_tells (Err r) = inr ((told r).number, (told r).place, (told r).second, tells refl)
 
 pub one_told : OneTold
-one_told Passed n p q n' p' q' t t' = absurd (passed_tells_none n p q t)
-one_told (Refused r) n p q n' p' q' t t' = same_figures (sym (figures t) ∙ figures t')
+one_told (Ok _) n p q n' p' q' t t' = absurd (passed_tells_none n p q t)
+one_told (Err r) n p q n' p' q' t t' = same_figures (sym (figures t) ∙ figures t')
 
 -- a refusal with one place: its number and the place
 pub record Gives (r : Refusal) (k x : ℕ) : Type 0 where
   pub is : told r ≡ told_at k x
 
-pub alone : {r : Refusal} {k x n p q : ℕ} → Gives r k x → Tells (Refused r) n p q → (n ≡ k) × Alone x p q
+pub alone : {r : Refusal} {k x n p q : ℕ} → Gives r k x → Tells (Err r) n p q → (n ≡ k) × Alone x p q
 alone g t = let (a, b, d) = same_figures (sym (figures t) ∙ g.is) in (a, (b, d))
 
-pub told_alone : {r : Refusal} {k x p q : ℕ} → Gives r k x → Alone x p q → Tells (Refused r) k p q
+pub told_alone : {r : Refusal} {k x p q : ℕ} → Gives r k x → Alone x p q → Tells (Err r) k p q
 told_alone {r} {k} {x} {p} {q} g (e, f) = tells (g.is ∙ (λ i. record { number = k; place = sym e i; second = sym f i }))
 
 module _ (x : ℕ) where
@@ -167,28 +166,28 @@ module _ {b : Bool} {P : Type 0} (holds : b ≡ true ↔ P) {r : Refusal} {k x :
   pub must_among : {ms : List ℕ} → Among ms t → Among (k ∷ ms) (must b r t)
   must_among a n p q m = ⊎_elim (λ (e, y). at_head (alone gives y).0) (λ (e, y). in_tail (a n p q y)) ((must_tells b r t n p q).0 m)
 
-pub passed_among : Among [] Passed
+pub passed_among : Among [] (Ok tt)
 passed_among n p q t = absurd (passed_tells_none n p q t)
 
-pub passed_never : (n : ℕ) → Never n Passed
+pub passed_never : (n : ℕ) → Never n (Ok tt)
 passed_never n p q t = passed_tells_none n p q t
 
 -- THE COUNTS
 
 module _ (i o : ℕ) where
   outputs_test : Test
-  outputs_test = must (up_to most_outputs o) (Symbols o) Passed
+  outputs_test = must (up_to most_outputs o) (Symbols o) (Ok tt)
 
   symbols_test : Test
   symbols_test = must (up_to most_inputs i) (Symbols i) outputs_test
 
   outputs_told : (p q : ℕ) → Tells outputs_test 3 p q ↔ ((UpTo most_outputs o → ⊥) × Alone o p q)
   unfolding outputs_test
-  outputs_told p q = own_number (up_to_limit most_outputs o) (symbols_give o) Passed (passed_never 3)
+  outputs_told p q = own_number (up_to_limit most_outputs o) (symbols_give o) (Ok tt) (passed_never 3)
 
   outputs_among : Among (3 ∷ []) outputs_test
   unfolding outputs_test
-  outputs_among = must_among (up_to_limit most_outputs o) (symbols_give o) Passed passed_among
+  outputs_among = must_among (up_to_limit most_outputs o) (symbols_give o) (Ok tt) passed_among
 
   symbols_among : Among (3 ∷ []) symbols_test
   unfolding symbols_test
@@ -239,26 +238,26 @@ sized n m = (eqb-true n m, eq-eqb n m)
 
 pub rows_told : RowsTold
 unfolding length_test
-rows_told n s i o p q = own_number (sized n (s * (i + o))) (rows_give n) Passed (passed_never 1)
+rows_told n s i o p q = own_number (sized n (s * (i + o))) (rows_give n) (Ok tt) (passed_never 1)
 
 pub length_among : LengthAmong
 unfolding length_test
-length_among n s i o = must_among (sized n (s * (i + o))) (rows_give n) Passed passed_among
+length_among n s i o = must_among (sized n (s * (i + o))) (rows_give n) (Ok tt) passed_among
 
 -- a bad entry is all that the test of the entries refuses
-bad_or_passed : (T : Table) → (entries_test T ≡ Passed) ⊎ ((s : ℕ) × (k : ℕ) × (entries_test T ≡ Refused (Entry s k)))
+bad_or_passed : (T : Table) → (entries_test T ≡ Ok tt) ⊎ ((s : ℕ) × (k : ℕ) × (entries_test T ≡ Err (Entry s k)))
 unfolding entries_test
 bad_or_passed T = go (first (bad T) (T.states * width T))
   where
-    go : (f : Option ℕ) → (unless_bad T f ≡ Passed) ⊎ ((s : ℕ) × (k : ℕ) × (unless_bad T f ≡ Refused (Entry s k)))
-    go none = inl refl
-    go (some j) = inr (_, _, refl)
+    go : (f : Option ℕ) → (unless_bad T f ≡ Ok tt) ⊎ ((s : ℕ) × (k : ℕ) × (unless_bad T f ≡ Err (Entry s k)))
+    go None = inl refl
+    go (Some j) = inr (_, _, refl)
 
-entry_figures : {s k n p q : ℕ} → Tells (Refused (Entry s k)) n p q → (n ≡ 4) × (p ≡ s) × (q ≡ k)
+entry_figures : {s k n p q : ℕ} → Tells (Err (Entry s k)) n p q → (n ≡ 4) × (p ≡ s) × (q ≡ k)
 unfolding told
 entry_figures t = same_figures (sym (figures t))
 
-entry_tells : (T : Table) {n p q : ℕ} → Tells (entries_test T) n p q → (n ≡ 4) × (entries_test T ≡ Refused (Entry p q))
+entry_tells : (T : Table) {n p q : ℕ} → Tells (entries_test T) n p q → (n ≡ 4) × (entries_test T ≡ Err (Entry p q))
 entry_tells T {n} {p} {q} t =
     ⊎_elim
     (λ e. absurd (passed_tells_none n p q (rw e at t)))
@@ -278,11 +277,11 @@ entries_among T n p q t = at_head (entry_tells T t).0
 -- THE BOUNDS
 
 losses_test : ℕ → Test
-losses_test c = must (up_to most_losses c) (Losses c) Passed
+losses_test c = must (up_to most_losses c) (Losses c) (Ok tt)
 
 losses_among : (c : ℕ) → Among (6 ∷ []) (losses_test c)
 unfolding losses_test
-losses_among c = must_among (up_to_limit most_losses c) (losses_give c) Passed passed_among
+losses_among c = must_among (up_to_limit most_losses c) (losses_give c) (Ok tt) passed_among
 
 pub waiting_told : WaitingTold
 unfolding bounds_test losses_test
@@ -293,7 +292,7 @@ unfolding bounds_test losses_test
 losses_told B c p q =
     let hold = up_to_limit most_waiting B in
     let (to, from) = other_number hold (waiting_give B) (losses_test c) {n = 6} {p = p} {q = q} (λ e. omega arith) in
-    let (to', from') = own_number (up_to_limit most_losses c) (losses_give c) Passed {p = p} {q = q} (passed_never 6) in
+    let (to', from') = own_number (up_to_limit most_losses c) (losses_give c) (Ok tt) {p = p} {q = q} (passed_never 6) in
     (λ t. let (u, y) = to t in let (f, a) = to' y in (u, f, a), λ (u, f, a). from (u, from' (f, a)))
 
 pub bounds_among : BoundsAmong
@@ -305,8 +304,8 @@ bounds_among B c = must_among (up_to_limit most_waiting B) (waiting_give B) (los
 -- a byte is invalid exactly where its event is not valid
 pub invalid_byte : InvalidByte
 invalid_byte b i o few few' = (
-  λ e. out (event b) ((symbol_means b i o Invalid few few').0 e),
-  λ n. (symbol_means b i o Invalid few few').1 (λ a e l. n (rw e l), λ a e l. n (rw e l)),
+  λ e. out (event b) ((symbol_means b i o None few few').0 e),
+  λ n. (symbol_means b i o None few few').1 (λ a e l. n (rw e l), λ a e l. n (rw e l)),
 )
   where
     out : (e : Event) → ((a : ℕ) → e ≡ input a → a < i → ⊥) × ((a : ℕ) → e ≡ output a → a < o → ⊥) → IsValid i o e → ⊥
@@ -317,35 +316,35 @@ module _ (b i o : ℕ) (few : i ≤ most_inputs) (few' : o ≤ most_outputs) whe
   valid_byte : is_invalid (symbol_of b i o) ≡ false ↔ IsValid i o (event b)
   valid_byte = (λ e. go (symbol_of b i o) refl e, λ v. back (symbol_of b i o) refl v)
     where
-      go : (x : Symbol) → symbol_of b i o ≡ x → is_invalid x ≡ false → IsValid i o (event b)
-      go (Input a) e f = let m = (given_means b i o a).0 e in rw m.2 m.1
-      go (Output a) e f = let m = (given_means b i o a).1 e in rw m.2 m.1
-      go Invalid e f = clash (cc)
+      go : (x : Option Symbol) → symbol_of b i o ≡ x → is_invalid x ≡ false → IsValid i o (event b)
+      go (Some (Input a)) e f = let m = (given_means b i o a).0 e in rw m.2 m.1
+      go (Some (Output a)) e f = let m = (given_means b i o a).1 e in rw m.2 m.1
+      go None e f = clash (cc)
 
-      back : (x : Symbol) → symbol_of b i o ≡ x → IsValid i o (event b) → is_invalid x ≡ false
-      back (Input a) e v = refl
-      back (Output a) e v = refl
-      back Invalid e v = absurd ((invalid_byte b i o few few').0 e v)
+      back : (x : Option Symbol) → symbol_of b i o ≡ x → IsValid i o (event b) → is_invalid x ≡ false
+      back (Some (Input a)) e v = refl
+      back (Some (Output a)) e v = refl
+      back None e v = absurd ((invalid_byte b i o few few').0 e v)
 
   not_valid_byte : is_invalid (symbol_of b i o) ≡ true ↔ (IsValid i o (event b) → ⊥)
   not_valid_byte = (λ e v. clash (cc (valid_byte.1 v)), λ n. go (symbol_of b i o) ((invalid_byte b i o few few').1 n))
     where
-      go : (x : Symbol) → x ≡ Invalid → is_invalid x ≡ true
-      go (Input a) e = clash (cc)
-      go (Output a) e = clash (cc)
-      go Invalid e = refl
+      go : (x : Option Symbol) → x ≡ None → is_invalid x ≡ true
+      go (Some (Input a)) e = clash (cc)
+      go (Some (Output a)) e = clash (cc)
+      go None e = refl
 
 event_or_passed : (trace : List ℕ) (i o : ℕ)
-    → (events_test trace i o ≡ Passed) ⊎ ((k : ℕ) × (events_test trace i o ≡ Refused (refusal.Event k)))
+    → (events_test trace i o ≡ Ok tt) ⊎ ((k : ℕ) × (events_test trace i o ≡ Err (refusal.Event k)))
 unfolding events_test
 event_or_passed trace i o = go (first (invalid_at trace i o) (length trace))
   where
-    go : (f : Option ℕ) → (unless_invalid f ≡ Passed) ⊎ ((k : ℕ) × (unless_invalid f ≡ Refused (refusal.Event k)))
-    go none = inl refl
-    go (some j) = inr (j, refl)
+    go : (f : Option ℕ) → (unless_invalid f ≡ Ok tt) ⊎ ((k : ℕ) × (unless_invalid f ≡ Err (refusal.Event k)))
+    go None = inl refl
+    go (Some j) = inr (j, refl)
 
 index_tells : (trace : List ℕ) (i o : ℕ) {n p q : ℕ} → Tells (events_test trace i o) n p q
-    → (n ≡ 7) × (events_test trace i o ≡ Refused (refusal.Event p)) × (q ≡ 0)
+    → (n ≡ 7) × (events_test trace i o ≡ Err (refusal.Event p)) × (q ≡ 0)
 index_tells trace i o {n} {p} {q} t =
     ⊎_elim
     (λ e. absurd (passed_tells_none n p q (rw e at t)))

@@ -1,4 +1,5 @@
 -- What it means that a test passes. Assumes nothing.
+use Rattle.std.specs.Prelude.{Ok}
 use mathlib.Core.Path.{◌≡◌, refl}
 use mathlib.Core.Bool.{true, false}
 use mathlib.Core.Logic.{◌↔◌}
@@ -10,8 +11,7 @@ use Rattle.table.specs.Tests.{must, up_to, counts_test, length_test, bounds_test
 use Rattle.table.specs.Laws.{MustPasses, CountsPass, LengthPasses, BoundsPass}
 use Rattle.table.specs.declared.answer.Refusal.{Refusal}
 use Rattle.table.specs.declared.answer.Refusal.TheVariants.{Rows, States, Symbols, Waiting, Losses}
-use Rattle.table.specs.declared.answer.Test.{Test}
-use Rattle.table.specs.declared.answer.Test.TheVariants.{Passed}
+use Rattle.table.specs.Test.{Test}
 use Rattle.table.proofs.Checks.{clash, both}
 
 pub up_to_limit : (limit n : ℕ) → up_to limit n ≡ true ↔ UpTo limit n
@@ -25,14 +25,14 @@ must_passes true r t = (λ e. (refl, e), λ (f, e). e)
 must_passes false r t = (λ e. clash (cc), λ (f, e). clash (cc))
 
 -- a count or a bound, before other tests and as the last
-then_pass : (limit n : ℕ) (r : Refusal) {t : Test} {P : Type 0} → t ≡ Passed ↔ P → must (up_to limit n) r t ≡ Passed ↔ (UpTo limit n × P)
+then_pass : (limit n : ℕ) (r : Refusal) {t : Test} {P : Type 0} → t ≡ Ok tt ↔ P → must (up_to limit n) r t ≡ Ok tt ↔ (UpTo limit n × P)
 then_pass limit n r {t} p =
     let (to, from) = must_passes (up_to limit n) r t in
     (λ e. ((up_to_limit limit n).0 (to e).0, p.0 (to e).1), λ (u, q). from ((up_to_limit limit n).1 u, p.1 q))
 
-last_pass : (limit n : ℕ) (r : Refusal) → must (up_to limit n) r Passed ≡ Passed ↔ UpTo limit n
+last_pass : (limit n : ℕ) (r : Refusal) → must (up_to limit n) r (Ok tt) ≡ Ok tt ↔ UpTo limit n
 last_pass limit n r =
-    let (to, from) = must_passes (up_to limit n) r Passed in
+    let (to, from) = must_passes (up_to limit n) r (Ok tt) in
     (λ e. (up_to_limit limit n).0 (to e).0, λ u. from ((up_to_limit limit n).1 u, refl))
 
 pub counts_pass : CountsPass
@@ -44,7 +44,7 @@ counts_pass s i o =
 pub length_passes : LengthPasses
 unfolding length_test
 length_passes n s i o =
-    let (to, from) = must_passes (eqb n (s * (i + o))) (Rows n) Passed in
+    let (to, from) = must_passes (eqb n (s * (i + o))) (Rows n) (Ok tt) in
     (λ e. eqb-true n (s * (i + o)) (to e).0, λ e. from (eq-eqb n (s * (i + o)) e, refl))
 
 pub bounds_pass : BoundsPass

@@ -1,8 +1,8 @@
 -- What the test of the entries says of rows and columns. Assumes nothing.
+use Rattle.std.specs.Prelude.{Option, Some, None, Ok, Err}
 use mathlib.Core.Path.{◌≡◌, refl, ◌∙◌}
 use mathlib.Core.Bool.{Bool, true, false}
 use mathlib.Core.Logic.{inl, inr, ⊎_elim}
-use mathlib.Core.Option.{Option, some, none}
 use Prim.Native.Nat.{ℕ, zero, suc, ◌+◌, ◌*◌, ◌/◌, ◌%◌, ◌≤◌, ◌<◌}
 use native.Mathlib.Nat.{mod-lt, div-add-mod', div-lt_iff_lt-mul, eq-or-lt_of_le}
 use native.Mathlib.Omega.{arith}
@@ -10,12 +10,11 @@ use lib.Arith.{digits_lt}
 use borrow.Author.Tests.{leb-true, le-leb}
 use Rattle.model.specs.Table.{Table, width, entry}
 use Rattle.model.proofs.Flags.{lt_or_ge}
-use Rattle.table.specs.Bytes.{said, leads_out}
+use Rattle.table.specs.Bytes.{leads_out}
 use Rattle.table.specs.First.{first}
 use Rattle.table.specs.Tests.{bad, row, column, unless_bad, entries_test}
 use Rattle.table.specs.Laws.{Bad, Before, EntriesPass, FirstTold}
 use Rattle.table.specs.declared.answer.Refusal.TheVariants.{Entry}
-use Rattle.table.specs.declared.answer.Test.TheVariants.{Passed, Refused}
 use Rattle.table.proofs.Checks.{clash}
 use Rattle.table.proofs.First.{found_none, found_first}
 use Rattle.table.proofs.Reading.{bad_at, none_bad, first_bad}
@@ -47,9 +46,9 @@ module _ (T : Table) where
   unfolding bad
   true_bad j l = go (entry T (row T j) (column T j)) refl
     where
-      go : (e : Option ℕ) → entry T (row T j) (column T j) ≡ e → leads_out T.states (said e) ≡ true → Bad T (row T j) (column T j)
-      go none f t = clash (cc)
-      go (some n) f t =
+      go : (e : Option ℕ) → entry T (row T j) (column T j) ≡ e → leads_out T.states (e) ≡ true → Bad T (row T j) (column T j)
+      go None f t = clash (cc)
+      go (Some n) f t =
           let w = wide T.states (width T) l in
           record {
             row = (div-lt_iff_lt-mul w).1 l;
@@ -66,13 +65,13 @@ module _ (T : Table) where
       go true e = absurd (n (true_bad j l e))
       go false e = refl
 
-  none_found : (o : Option ℕ) → unless_bad T o ≡ Passed → o ≡ none
-  none_found none e = refl
-  none_found (some j) e = clash (cc)
+  none_found : (o : Option ℕ) → unless_bad T o ≡ Ok tt → o ≡ None
+  none_found None e = refl
+  none_found (Some j) e = clash (cc)
 
-  one_found : {s k : ℕ} (o : Option ℕ) → unless_bad T o ≡ Refused (Entry s k) → (j : ℕ) × (o ≡ some j) × (row T j ≡ s) × (column T j ≡ k)
-  one_found none e = clash (cc)
-  one_found (some j) e = (j, refl, (cc), (cc))
+  one_found : {s k : ℕ} (o : Option ℕ) → unless_bad T o ≡ Err (Entry s k) → (j : ℕ) × (o ≡ Some j) × (row T j ≡ s) × (column T j ≡ k)
+  one_found None e = clash (cc)
+  one_found (Some j) e = (j, refl, (cc), (cc))
 
   least : {s k : ℕ} (j : ℕ) → row T j ≡ s → column T j ≡ k
       → (j < T.states * width T) × (bad T j ≡ true) × ((i : ℕ) → i < j → bad T i ≡ false)

@@ -1,4 +1,5 @@
 -- What the symbol of an event byte means. Assumes nothing.
+use Rattle.std.specs.Prelude.{Option, Some, None}
 use mathlib.Core.Path.{◌≡◌, refl, sym}
 use mathlib.Core.Bool.{Bool, true, false, cond, ◌&&◌}
 use mathlib.Core.Logic.{◌⊎◌, inl, inr, ⊎_elim}
@@ -11,7 +12,7 @@ use Rattle.model.specs.Model.{Event, input, output, event}
 use Rattle.table.specs.Bytes.{symbol, symbol_of}
 use Rattle.table.specs.Laws.{SymbolMeans, GivenMeans}
 use Rattle.table.specs.declared.answer.Symbol.{Symbol}
-use Rattle.table.specs.declared.answer.Symbol.TheVariants.{Input, Output, Invalid}
+use Rattle.table.specs.declared.answer.Symbol.TheVariants.{Input, Output}
 use Rattle.table.proofs.Checks.{clash, both}
 
 -- the byte of an event
@@ -33,33 +34,33 @@ output_byte b {a} = go (ltb b 128) refl
 
 -- a symbol that is valid where a is below the limit and below the count n
 module _ (limit n a : ℕ) where
-  given : {x y : Symbol} → cond (ltb a limit && ltb a n) x Invalid ≡ y → ((a < n) × (x ≡ y)) ⊎ (Invalid ≡ y)
+  given : {x y : Option Symbol} → cond (ltb a limit && ltb a n) x None ≡ y → ((a < n) × (x ≡ y)) ⊎ (None ≡ y)
   given {x} {y} = go (ltb a limit && ltb a n) refl
     where
-      go : (t : Bool) → (ltb a limit && ltb a n) ≡ t → cond t x Invalid ≡ y → ((a < n) × (x ≡ y)) ⊎ (Invalid ≡ y)
+      go : (t : Bool) → (ltb a limit && ltb a n) ≡ t → cond t x None ≡ y → ((a < n) × (x ≡ y)) ⊎ (None ≡ y)
       go true t e = inl (ltb-true a n (both (ltb a limit) (ltb a n) t).1, e)
       go false t e = inr e
 
-  valid : (x : Symbol) → n ≤ limit → a < n → cond (ltb a limit && ltb a n) x Invalid ≡ x
+  valid : (x : Option Symbol) → n ≤ limit → a < n → cond (ltb a limit && ltb a n) x None ≡ x
   valid x m l = rw (lt-ltb a limit (omega arith), lt-ltb a n l)
 
-  refused : (x : Symbol) → (a < n → ⊥) → cond (ltb a limit && ltb a n) x Invalid ≡ Invalid
+  refused : (x : Option Symbol) → (a < n → ⊥) → cond (ltb a limit && ltb a n) x None ≡ None
   refused x f = ⊎_elim (λ (l, e). absurd (f l)) (λ e. sym e) (given refl)
 
 module _ (i o : ℕ) where
   -- the event that a symbol is given for
-  abbrev Of : Event → Symbol → Type 0
-  Of e (Input a) = (a < i) × (e ≡ input a)
-  Of e (Output a) = (a < o) × (e ≡ output a)
-  Of e Invalid = Unit {0}
+  abbrev Of : Event → Option Symbol → Type 0
+  Of e (Some (Input a)) = (a < i) × (e ≡ input a)
+  Of e (Some (Output a)) = (a < o) × (e ≡ output a)
+  Of e None = Unit {0}
 
-  of : (e : Event) {x : Symbol} → symbol e i o ≡ x → Of e x
+  of : (e : Event) {x : Option Symbol} → symbol e i o ≡ x → Of e x
   of (input a) q = ⊎_elim (λ (l, r). rw (← r) (l, refl)) (λ r. rw (← r) tt) (given most_inputs i a q)
   of (output a) q = ⊎_elim (λ (l, r). rw (← r) (l, refl)) (λ r. rw (← r) tt) (given most_outputs o a q)
 
-  none : (e : Event) → ((a : ℕ) → e ≡ input a → a < i → ⊥) → ((a : ℕ) → e ≡ output a → a < o → ⊥) → symbol e i o ≡ Invalid
-  none (input a) f g = refused most_inputs i a (Input a) (f a refl)
-  none (output a) f g = refused most_outputs o a (Output a) (g a refl)
+  none : (e : Event) → ((a : ℕ) → e ≡ input a → a < i → ⊥) → ((a : ℕ) → e ≡ output a → a < o → ⊥) → symbol e i o ≡ None
+  none (input a) f g = refused most_inputs i a (Some (Input a)) (f a refl)
+  none (output a) f g = refused most_outputs o a (Some (Output a)) (g a refl)
 
 pub given_means : GivenMeans
 unfolding symbol_of
@@ -70,9 +71,9 @@ given_means b i o a = (
 
 pub symbol_means : SymbolMeans
 unfolding symbol_of
-symbol_means b i o (Input a) m n = ((given_means b i o a).0, λ (p, l, e). rw e (valid most_inputs i a (Input a) m l))
-symbol_means b i o (Output a) m n = ((given_means b i o a).1, λ (p, l, e). rw e (valid most_outputs o a (Output a) n l))
-symbol_means b i o Invalid m n = (
-  λ q. (λ a e l. clash (cc (valid most_inputs i a (Input a) m l, rw e at q)), λ a e l. clash (cc (valid most_outputs o a (Output a) n l, rw e at q))),
+symbol_means b i o (Some (Input a)) m n = ((given_means b i o a).0, λ (p, l, e). rw e (valid most_inputs i a (Some (Input a)) m l))
+symbol_means b i o (Some (Output a)) m n = ((given_means b i o a).1, λ (p, l, e). rw e (valid most_outputs o a (Some (Output a)) n l))
+symbol_means b i o None m n = (
+  λ q. (λ a e l. clash (cc (valid most_inputs i a (Some (Input a)) m l, rw e at q)), λ a e l. clash (cc (valid most_outputs o a (Some (Output a)) n l, rw e at q))),
   λ (f, g). none i o (event b) f g,
 )

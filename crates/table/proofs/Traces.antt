@@ -1,6 +1,6 @@
 -- Laws of a trace's events: which is the first that is not valid. Assumes nothing.
+use Rattle.std.specs.Prelude.{Option, Some, None, Ok, Err}
 use mathlib.Core.Path.{◌≡◌, refl, ap}
-use mathlib.Core.Option.{Option, some, none}
 use Prim.Native.Nat.{ℕ}
 use native.Mathlib.Omega.{arith}
 use lib.ListN.{length}
@@ -8,17 +8,16 @@ use Rattle.table.specs.First.{first}
 use Rattle.table.specs.Tests.{invalid_at, unless_invalid, events_test}
 use Rattle.table.specs.Laws.{EventsPass, FirstInvalid}
 use Rattle.table.specs.declared.answer.Refusal.TheVariants.{Event}
-use Rattle.table.specs.declared.answer.Test.TheVariants.{Passed, Refused}
 use Rattle.table.proofs.First.{found_none, found_first}
 
 -- what the test answers tells what was found
-none_found : (f : Option ℕ) → unless_invalid f ≡ Passed → f ≡ none
-none_found none e = refl
-none_found (some k) e = absurd (let z : ◌≡◌ {A = ℕ} 0 1 = cc in omega arith)
+none_found : (f : Option ℕ) → unless_invalid f ≡ Ok tt → f ≡ None
+none_found None e = refl
+none_found (Some k) e = absurd (let z : ◌≡◌ {A = ℕ} 0 1 = cc in omega arith)
 
-one_found : (f : Option ℕ) (k : ℕ) → unless_invalid f ≡ Refused (Event k) → f ≡ some k
-one_found none k e = absurd (let z : ◌≡◌ {A = ℕ} 0 1 = cc in omega arith)
-one_found (some i) k e = let z : i ≡ k = cc in rw z
+one_found : (f : Option ℕ) (k : ℕ) → unless_invalid f ≡ Err (Event k) → f ≡ Some k
+one_found None k e = absurd (let z : ◌≡◌ {A = ℕ} 0 1 = cc in omega arith)
+one_found (Some i) k e = let z : i ≡ k = cc in rw z
 
 pub events_pass : EventsPass
 unfolding events_test

@@ -1,3 +1,4 @@
+pub mod Test
 pub mod Refusals
 pub mod Bytes
 pub mod First

@@ -1,8 +1,7 @@
 -- Document 01, "Numbers for what is turned away", in the document's figures: which number is given when, and what is told with it. All is
 -- said over `told`, so that it does not matter what the refusals are called. proofs/Numbers.antt proves the laws. Assumes nothing.
-use Rattle.std.specs.Prelude.{◌≡◌, Bool, true, false, ◌↔◌, ◌⊎◌, ℕ, ◌+◌, ◌*◌, ◌≤◌, ◌<◌, length, get_or}
+use Rattle.std.specs.Prelude.{◌≡◌, Bool, true, false, ◌↔◌, ◌⊎◌, ℕ, ◌+◌, ◌*◌, ◌≤◌, ◌<◌, length, get_or, Option, Some, None, Ok, Err}
 use mathlib.Core.List.{List, [], ◌∷◌, Memᴰ as In}
-use Rattle.std.proofs.Math.Option.{Option, some, none}
 use Rattle.model.specs.Limits.{most_states, most_inputs, most_outputs, most_waiting, most_losses, UpTo}
 use Rattle.model.specs.Table.{Table}
 use Rattle.model.specs.Model.{Event, input, output, event}
@@ -11,21 +10,19 @@ use Rattle.table.specs.Refusals.{told}
 use Rattle.table.specs.Tests.{must, counts_test, length_test, entries_test, bounds_test, events_test}
 use Rattle.table.specs.Laws.{FirstBad}
 use Rattle.table.specs.declared.answer.Refusal.{Refusal}
-use Rattle.table.specs.declared.answer.Symbol.TheVariants.{Invalid}
-use Rattle.table.specs.declared.answer.Test.{Test}
-use Rattle.table.specs.declared.answer.Test.TheVariants.{Passed, Refused}
+use Rattle.table.specs.Test.{Test}
 use Rattle.table.specs.declared.answer.Told.{Told}
 
 -- WHAT IS TOLD
 
 -- What a test tells: nothing, where it passes.
 abbrev pub told_of : Test → Option Told
-told_of Passed = none
-told_of (Refused r) = some (told r)
+told_of (Ok _) = None
+told_of (Err r) = Some (told r)
 
 -- A refusal is a number with its place: the test is refused, and tells this number, this place and this second place.
 pub record Tells (t : Test) (n p q : ℕ) : Type 0 where
-  pub is : told_of t ≡ some (record { number = n; place = p; second = q })
+  pub is : told_of t ≡ Some (record { number = n; place = p; second = q })
 
 -- Places not used or not named are 0: of the place p and the second place q only x is told.
 abbrev pub Alone : ℕ → ℕ → ℕ → Type 0
@@ -37,11 +34,11 @@ Among numbers t = (n p q : ℕ) → Tells t n p q → In n numbers
 
 -- A test passes or tells a number,
 abbrev pub PassesOrTells : Type 0
-PassesOrTells = (t : Test) → (t ≡ Passed) ⊎ ((n : ℕ) × (p : ℕ) × (q : ℕ) × Tells t n p q)
+PassesOrTells = (t : Test) → (t ≡ Ok tt) ⊎ ((n : ℕ) × (p : ℕ) × (q : ℕ) × Tells t n p q)
 
 -- not both,
 abbrev pub PassedTellsNone : Type 0
-PassedTellsNone = (n p q : ℕ) → Tells Passed n p q → ⊥
+PassedTellsNone = (n p q : ℕ) → Tells (Ok tt) n p q → ⊥
 
 -- and one number with one pair of places.
 abbrev pub OneTold : Type 0
@@ -51,7 +48,7 @@ OneTold = (t : Test) (n p q n' p' q' : ℕ) → Tells t n p q → Tells t n' p' 
 abbrev pub MustTells : Type 0
 MustTells =
     (b : Bool) (r : Refusal) (t : Test) (n p q : ℕ)
-    → Tells (must b r t) n p q ↔ (((b ≡ false) × Tells (Refused r) n p q) ⊎ ((b ≡ true) × Tells t n p q))
+    → Tells (must b r t) n p q ↔ (((b ≡ false) × Tells (Err r) n p q) ⊎ ((b ≡ true) × Tells t n p q))
 
 -- THE COUNTS
 
@@ -126,8 +123,8 @@ EventsAmong = (trace : List ℕ) (i o : ℕ) → Among (7 ∷ []) (events_test t
 
 -- A trace passes exactly when all its events are valid.
 abbrev pub TracePasses : Type 0
-TracePasses = (trace : List ℕ) (i o : ℕ) → i ≤ most_inputs → o ≤ most_outputs → events_test trace i o ≡ Passed ↔ AllValid trace i o
+TracePasses = (trace : List ℕ) (i o : ℕ) → i ≤ most_inputs → o ≤ most_outputs → events_test trace i o ≡ Ok tt ↔ AllValid trace i o
 
 -- An event byte is refused exactly when its event is not valid.
 abbrev pub InvalidByte : Type 0
-InvalidByte = (b i o : ℕ) → i ≤ most_inputs → o ≤ most_outputs → symbol_of b i o ≡ Invalid ↔ (IsValid i o (event b) → ⊥)
+InvalidByte = (b i o : ℕ) → i ≤ most_inputs → o ≤ most_outputs → symbol_of b i o ≡ None ↔ (IsValid i o (event b) → ⊥)

@@ -1,5 +1,5 @@
 -- Document 01, "Numbers for what is turned away": the number of each refusal, and the places told with it. Assumes nothing.
-use Rattle.std.specs.Prelude.{ℕ}
+use Rattle.std.specs.Prelude.{ℕ, Result, Ok, Err}
 use Rattle.table.specs.declared.answer.Refusal.{Refusal}
 use Rattle.table.specs.declared.answer.Refusal.TheVariants.{Rows, States, Symbols, Entry, Waiting, Losses, Event, Unsound, Events, Buffer}
 use Rattle.table.specs.declared.answer.Told.{Told}
@@ -20,3 +20,8 @@ told (Event index) = told_at 7 index
 told Unsound = told_at 8 0
 told (Events count) = told_at 9 count
 told (Buffer needed) = told_at 10 needed
+
+-- What an answer tells: nothing, unless it is a refusal. Then what tells refusals of its kind tells.
+abbrev pub told_by : {A R : Type 0} → (R → Told) → Result A R → Told
+told_by tells (Ok a) = told_at 0 0
+told_by tells (Err r) = tells r

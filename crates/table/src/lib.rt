@@ -4,13 +4,15 @@
 
 ghost use Rattle.std.specs.Prelude.{◌≡◌};
 ghost use Rattle.table.specs.Bytes.{table_of};
-ghost use Rattle.table.specs.Tests.{up_to, counts_test, length_test, entries_test, bounds_test, is_invalid, events_test};
+ghost use Rattle.table.specs.Tests.{must, up_to, counts_test, length_test, entries_test, bounds_test, events_test};
 
 pub mod answer;
 mod byte;
+mod rules;
 
-pub use answer::{Next, Refusal, Symbol, Test, Told, tell};
+pub use answer::{Refusal, Symbol, Tell, Told};
 pub use byte::{event, next};
+pub use rules::Rules;
 
 // The limits of document 01. The contracts hold each to the model's limit of the same name.
 pub const MOST_STATES: usize = 64;
@@ -23,90 +25,74 @@ pub const MOST_WAITING: usize = 32;
 
 pub const MOST_LOSSES: usize = 8;
 
-// Whether n is 1 to most.
-fn within(n: usize, most: usize) -> bool
-    ensures { result ≡ up_to most n }
+// The test that n is 1 to most.
+fn within(n: usize, most: usize, refusal: Refusal) -> Result<(), Refusal>
+    ensures { result ≡ must (up_to most n) refusal (Ok tt) }
 {
-    1 <= n && n <= most
+    if (1..=most).contains(&n) {
+        Ok(())
+    } else {
+        Err(refusal)
+    }
 }
 
 // Numbers 2 and 3. Of two wrong counts of symbols the inputs' is told.
-pub fn counts(states: usize, inputs: usize, outputs: usize) -> Test
+#[tactic(auto, unfolding(crate::specs::Tests::counts_test))]
+pub fn counts(states: usize, inputs: usize, outputs: usize) -> Result<(), Refusal>
     ensures { result ≡ counts_test states inputs outputs }
 {
-    if !within(states, MOST_STATES) {
-        return Test::Refused(Refusal::States(states));
-    }
-    if !within(inputs, MOST_INPUTS) {
-        return Test::Refused(Refusal::Symbols(inputs));
-    }
-    if !within(outputs, MOST_OUTPUTS) {
-        return Test::Refused(Refusal::Symbols(outputs));
-    }
-    Test::Passed
+    within(states, MOST_STATES, Refusal::States(states))?;
+    within(inputs, MOST_INPUTS, Refusal::Symbols(inputs))?;
+    within(outputs, MOST_OUTPUTS, Refusal::Symbols(outputs))
 }
 
-// Number 1, of rows that are len bytes long.
-pub fn length(len: usize, states: u8, inputs: u8, outputs: u8) -> Test
+// Number 1, of rows that are len bytes long. The counts are parameters of their own, here and below: callers have them in structs of their
+// own, as usize before `counts` has passed and as u8 after.
+#[tactic(auto, unfolding(crate::specs::Tests::length_test))]
+pub fn length(len: usize, states: u8, inputs: u8, outputs: u8) -> Result<(), Refusal>
     ensures { result ≡ length_test len states inputs outputs }
 {
-    if len == byte::span(states, inputs, outputs) as usize {
-        Test::Passed
+    if len == byte::span(states, inputs, outputs) {
+        Ok(())
     } else {
-        Test::Refused(Refusal::Rows(len))
+        Err(Refusal::Rows(len))
     }
 }
 
 // Number 4. Rows that are too short are no fault here: past their end nothing is a next state.
-pub fn entries(rows: &[u8], states: u8, inputs: u8, outputs: u8) -> Test
+#[tactic(auto, using(crate::proofs::Reading::none_bad), unfolding(crate::specs::First::first))]
+pub fn entries(rows: &[u8], states: u8, inputs: u8, outputs: u8) -> Result<(), Refusal>
     ensures { result ≡ entries_test (table_of rows.now states inputs outputs) }
 {
-    let width = inputs as u16 + outputs as u16;
-    let mut found = Test::Passed;
-    'rows: for row in 0..states {
+    let width = u16::from(inputs) + u16::from(outputs);
+    for row in 0..states {
         for column in 0..width {
-            if byte::leads_out(byte::look(rows, inputs, outputs, row, column), states) {
-                found = Test::Refused(Refusal::Entry(row as usize, column as usize));
-                break 'rows;
+            if byte::leads_out(next(rows, inputs, outputs, row, column), states) {
+                return Err(Refusal::Entry(usize::from(row), usize::from(column)));
             }
         }
     }
-    found
+    Ok(())
 }
 
 // Numbers 5 and 6, of B and c. Where both are wrong, B is told.
-pub fn bounds(waiting: usize, losses: usize) -> Test
+#[tactic(auto, unfolding(crate::specs::Tests::bounds_test))]
+pub fn bounds(waiting: usize, losses: usize) -> Result<(), Refusal>
     ensures { result ≡ bounds_test waiting losses }
 {
-    if !within(waiting, MOST_WAITING) {
-        return Test::Refused(Refusal::Waiting(waiting));
-    }
-    if !within(losses, MOST_LOSSES) {
-        return Test::Refused(Refusal::Losses(losses));
-    }
-    Test::Passed
-}
-
-fn invalid(s: Symbol) -> bool
-    ensures { result ≡ is_invalid s }
-{
-    match s {
-        Symbol::Input(_) => false,
-        Symbol::Output(_) => false,
-        Symbol::Invalid => true,
-    }
+    within(waiting, MOST_WAITING, Refusal::Waiting(waiting))?;
+    within(losses, MOST_LOSSES, Refusal::Losses(losses))
 }
 
 // Number 7: the first event of a trace that is not valid.
-pub fn events(trace: &[u8], inputs: u8, outputs: u8) -> Test
+#[tactic(auto, using(crate::proofs::First::none_more, crate::proofs::First::found), unfolding(crate::specs::Tests::events_test, crate::specs::First::first))]
+pub fn events(trace: &[u8], inputs: u8, outputs: u8) -> Result<(), Refusal>
     ensures { result ≡ events_test trace.now inputs outputs }
 {
-    let mut k: usize = 0;
-    while k < trace.len() {
-        if invalid(event(trace[k], inputs, outputs)) {
-            return Test::Refused(Refusal::Event(k));
+    for (index, byte) in trace.iter().enumerate() {
+        if event(*byte, inputs, outputs).is_none() {
+            return Err(Refusal::Event(index));
         }
-        k += 1;
     }
-    Test::Passed
+    Ok(())
 }

@@ -1,12 +1,13 @@
 -- Laws of one block as it is laid out: what the reader's definitions see in it; and that they see it in no other. Assumes nothing.
 use mathlib.Core.Path.{◌≡◌, refl, sym, ap, ◌∙◌}
-use mathlib.Core.List.{List, ◌++◌, append_assoc}
+use mathlib.Core.List.{List, [], ◌∷◌, ◌++◌, append_assoc}
 use mathlib.Core.Logic.{◌⊎◌}
 use Prim.Native.Nat.{ℕ, zero, suc, ◌+◌, ◌-◌, ◌/◌, ◌%◌, ◌≤◌, ◌<◌, min}
 use native.Mathlib.Decide.{dec_le}
 use native.Mathlib.Omega.{arith}
 use lib.ListN.{length, drop, get_or, replicate, length-append, length-take, length-drop, length-replicate, get_or-replicate, get_or-eq_default, get_or-append}
 use lib.Seq.{get_or-append-add, get_or-take, get_or-drop, ext_get_or}
+use Rattle.std.specs.Int.{w16, to_le_bytes}
 use Rattle.model.specs.Limits.{UpTo}
 use Rattle.block.specs.Limits.{block_size, payload_at, check_at, room, modulus, setup_kind, row_kind, event_kind, setup_size}
 use Rattle.block.specs.Block.{byte, two, kind, byte_one, number, used, payload, stored, weighed, check, GoodBlock}
@@ -18,6 +19,10 @@ use Rattle.writer.specs.Layout.{spelling, header, body, block_of}
 -- two bytes of a number give it back
 spelt_back : (n : ℕ) → two (n % 256) (n / 256) ≡ n
 spelt_back n = omega arith
+
+-- they are those that the library's `to_le_bytes` gives
+pub spelt_so : (n : ℕ) → n < 65536 → to_le_bytes w16 n ≡ spelling n
+spelt_so n l = ap (λ (k : ℕ). n % 256 ∷ k ∷ []) (omega arith)
 
 -- and with a low byte below 256 there are no other two
 low_is : (a b n : ℕ) → two a b ≡ n → a < 256 → a ≡ n % 256

@@ -5,21 +5,21 @@ use mathlib.Core.List.{List, [], ◌++◌, append_assoc, append-nil}
 use mathlib.Core.Logic.{◌⊎◌, inl, inr}
 use Prim.Native.Nat.{ℕ, zero, suc, ◌+◌, ◌*◌, ◌≤◌, ◌<◌}
 use native.Mathlib.Numerals.{add-one}
-use native.Mathlib.Decide.{dec_le}
 use native.Mathlib.Omega.{arith}
+use borrow.Author.Count.{below_more}
 use lib.Dec.{eqb}
 use lib.ListN.{length, take, drop, get_or, length-append, length-take, length-drop, get_or-append}
 use lib.Seq.{take_all, take-add, take-append-le, drop-append-le, drop_at}
 use Rattle.block.specs.Limits.{block_size, payload_at, room, setup_kind, row_kind, event_kind, setup_size}
 use Rattle.block.specs.Block.{kind, used, share, GoodBlock}
 use Rattle.house.specs.Limits.{most_rows, most_events}
-use Rattle.house.specs.File.{block_at, blocks, block_before, joined, rows_of, events_of, source_of, setup, contents_of}
+use Rattle.house.specs.File.{block_at, blocks, block_before, joined, rows_of, events_of, source_of, setup, contents_of, source_byte}
 use Rattle.house.specs.declared.answer.Contents.{Contents}
 use Rattle.house.specs.declared.answer.Source.{Source}
 use Rattle.house.specs.declared.answer.Source.TheVariants.{Rows, Standard}
 use Rattle.house.proofs.Files.{joined_none, joined_more}
 use Rattle.writer.specs.Writing.{blocks_for, needed, Spelt, IsFile}
-use Rattle.writer.specs.Layout.{block_of, piece, run_of, all_of, source_byte, setup_of, file_of}
+use Rattle.writer.specs.Layout.{block_of, piece, run_of, all_of, setup_of, file_of}
 use Rattle.writer.specs.Laws.{Counted}
 use Rattle.writer.proofs.Blocks.{length_block, kind_is, used_is, payload_is, payload_byte, spelt_is, good_is}
 
@@ -78,14 +78,12 @@ grow {f} {k} {H} {y} {u} x p h g new =
     let here : block_at (f ++ b) k ≡ b = at_new f b k g.long n in
     record {
       long = simp length-append (omega (arith, g.long));
-      good = λ j l. elim (dec_le (suc j) k) [
-        | yes m ↦ rw (at_old f b k g.long j m, before_old f b k g.long j (omega arith)) (g.good j m)
-        | no m ↦ let e : j ≡ k = omega arith in rw (e, here, before_old f b k g.long k (omega arith)) new
-      ];
-      spelt = λ j l. elim (dec_le (suc j) k) [
-        | yes m ↦ rw (at_old f b k g.long j m) (g.spelt j m)
-        | no m ↦ let e : j ≡ k = omega arith in rw (e, here) (spelt_is x k p h)
-      ];
+      good = below_more (λ (j : ℕ). GoodBlock (block_at (f ++ b) j) j (block_before (f ++ b) j)) k
+          (λ j m. rw (at_old f b k g.long j m, before_old f b k g.long j (omega arith)) (g.good j m))
+          (rw (here, before_old f b k g.long k (omega arith)) new);
+      spelt = below_more (λ (j : ℕ). Spelt (block_at (f ++ b) j)) k
+          (λ j m. rw (at_old f b k g.long j m) (g.spelt j m))
+          (rw here (spelt_is x k p h));
       held = λ q. joined_more q (f ++ b) k ∙ rw (joined_old f b k g.long q k (omega arith), here, g.held q, share_is q x k p h);
       kind_last = ap (λ (j : ℕ). kind (block_before (f ++ b) j)) (add-one k) ∙ ap kind here ∙ kind_is x k p h;
       used_last = ap (λ (j : ℕ). used (block_before (f ++ b) j)) (add-one k) ∙ ap used here ∙ used_is x k p h;

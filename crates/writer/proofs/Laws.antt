@@ -1,4 +1,5 @@
 -- Every statement of specs/Laws.antt, proved, under one roof: other crates take the laws from here. Assumes nothing.
+use Rattle.std.specs.Prelude.{Ok, Err}
 use mathlib.Core.Path.{◌≡◌, refl, sym, ap, ap₂, ◌∙◌, subst}
 use mathlib.Core.List.{List, ◌++◌}
 use Prim.Native.Nat.{ℕ, ◌+◌, ◌*◌, ◌≤◌, ◌<◌}
@@ -15,18 +16,15 @@ use Rattle.house.specs.File.{block_at, rows_of, events_of, contents_of}
 use Rattle.house.specs.Reading.{held_test, verdict, answer as read_answer, Answers}
 use Rattle.house.specs.Laws.{GoodContents, GoodFile, Starts}
 use Rattle.house.specs.declared.answer.Contents.{Contents}
-use Rattle.house.specs.declared.answer.Reading.{Reading}
-use Rattle.house.specs.declared.answer.Reading.TheVariants as reading
+use Rattle.house.specs.Verdict.{Reading}
 use Rattle.house.specs.declared.answer.Refusal.TheVariants.{Content}
-use Rattle.house.specs.declared.answer.Verdict.{Verdict}
-use Rattle.house.specs.declared.answer.Verdict.TheVariants as verdict
+use Rattle.house.specs.Verdict.{Verdict}
 use Rattle.house.proofs.Laws.{contents_pass, rows_fit, read_exactly, what_is_held, what_is_good, counts_held}
 use Rattle.house.proofs.Verdicts.{then_passed, must_passed}
 use Rattle.writer.specs.Writing.{needed, write_test, answer, IsFile, Left, Writes}
 use Rattle.writer.specs.Layout.{file_of}
 use Rattle.writer.specs.Laws.{Counted, LaidOut, LongAsNeeded, OneFile, Bytes, GoodIsFile, WriteExactly, OneWriting, NothingWritten, ReadsBack, WritesWhatWasRead, WritesBack}
-use Rattle.writer.specs.declared.answer.Writing.{Writing}
-use Rattle.writer.specs.declared.answer.Writing.TheVariants.{Written, Refused}
+use Rattle.writer.specs.Answer.{Writing}
 use Rattle.writer.proofs.Files.{laid, long_enough}
 use Rattle.writer.proofs.Unique
 
@@ -72,11 +70,11 @@ write_exactly c rows trace space n = (
 
 -- of two buffers left by the same answer
 left_same : (c : Contents) (rows trace o : List ℕ) (w : Writing) (o₁ o₂ : List ℕ) → Left w c rows trace o o₁ → Left w c rows trace o o₂ → o₁ ≡ o₂
-left_same c rows trace o (Written n) o₁ o₂ a b =
+left_same c rows trace o (Ok n) o₁ o₂ a b =
     sym (take-append-drop n o₁)
     ∙ ap₂ (λ (x y : List ℕ). x ++ y) (one_file (take n o₁) (take n o₂) c rows trace a.file b.file) (a.later ∙ sym b.later)
     ∙ take-append-drop n o₂
-left_same c rows trace o (Refused r) o₁ o₂ a b = a ∙ sym b
+left_same c rows trace o (Err r) o₁ o₂ a b = a ∙ sym b
 
 pub one_writing : OneWriting
 one_writing c rows trace o w₁ w₂ o₁ o₂ x y =
@@ -87,11 +85,11 @@ pub nothing_written : NothingWritten
 nothing_written c rows trace o r o' x = x.left
 
 -- a file that was written passed its tests, and its length was answered
-pub was_written : (v : Verdict) (c : Contents) (n : ℕ) → Written n ≡ answer v c → (v ≡ verdict.Passed) × (n ≡ needed c)
-was_written verdict.Passed c n e = (refl, cc)
-was_written (verdict.Refused r) c n e = clash (cc)
+pub was_written : (v : Verdict) (c : Contents) (n : ℕ) → Ok n ≡ answer v c → (v ≡ Ok tt) × (n ≡ needed c)
+was_written (Ok _) c n e = (refl, cc)
+was_written (Err r) c n e = clash (cc)
 
-passed_written : (v : Verdict) (c : Contents) (w : Writing) → w ≡ answer v c → v ≡ verdict.Passed → w ≡ Written (needed c)
+passed_written : (v : Verdict) (c : Contents) (w : Writing) → w ≡ answer v c → v ≡ Ok tt → w ≡ Ok (needed c)
 passed_written v c w e p = e ∙ ap (λ (x : Verdict). answer x c) p
 
 -- Both round trips.
@@ -105,8 +103,7 @@ file_good f c rows trace i g =
     }
 
 starts_same : (d d' p q : List ℕ) (n m : ℕ) → p ≡ q → n ≡ m → Starts d d' p n → Starts d d' q m
-starts_same d d' p q n m e f s =
-    subst (λ (k : ℕ). Starts d d' q k) f (subst (λ (x : List ℕ). Starts d d' x n) e s)
+starts_same d d' p q n m e f s = rw (e, f) at s
 
 pub reads_back : ReadsBack
 reads_back c rows trace o n o' d e r d' e' counted w l m a =
@@ -114,12 +111,12 @@ reads_back c rows trace o n o' d e r d' e' counted w l m a =
     let i : IsFile f c rows trace = w.left.file in
     let (p, _) = was_written (write_test c rows trace (length o)) c n w.answer in
     let (g, _) = (write_exactly c rows trace (length o) counted).0 p in
-    let v : verdict f (length d) (length e) ≡ verdict.Passed =
+    let v : verdict f (length d) (length e) ≡ Ok tt =
     (read_exactly f (length d) (length e)).1 (file_good f c rows trace i g, rw i.rows_held l, rw i.events_held m) in
-    let same : r ≡ reading.Good (contents_of f) = a.reading ∙ ap (λ (x : Verdict). read_answer x (contents_of f)) v in
+    let same : r ≡ Ok (contents_of f) = a.reading ∙ ap (λ (x : Verdict). read_answer x (contents_of f)) v in
     let h = what_is_held f d e (contents_of f) d' e' (subst (λ (x : Reading). Answers f d e x d' e') same a) in
     record {
-      contents = same ∙ ap (λ (x : Contents). reading.Good x) i.contents;
+      contents = same ∙ ap (λ (x : Contents). Ok x) i.contents;
       rows_back = starts_same d d' (rows_of f) rows (contents_of f).rows (length rows) i.rows_held ((counts_held f).0 ∙ ap length i.rows_held) h.rows;
       events_back = starts_same e e' (events_of f) trace (contents_of f).events (length trace) i.events_held ((counts_held f).1 ∙ ap length i.events_held) h.events;
     }
@@ -145,9 +142,9 @@ writes_back s d e c d' e' o w o' bytes a space x =
     ap length (one_file s (file_of c rows trace) c rows trace i (good_laid c rows trace counted g.contents)) ∙ long_as_needed c rows trace counted in
     let l : needed c ≤ length o = omega arith in
     let p = (write_exactly c rows trace (length o) counted).1 (g.contents, l) in
-    let e₁ : w ≡ Written (needed c) = passed_written (write_test c rows trace (length o)) c w y.answer p in
-    let left : Left (Written (needed c)) c rows trace o o' = subst (λ (z : Writing). Left z c rows trace o o') e₁ y.left in
+    let e₁ : w ≡ Ok (needed c) = passed_written (write_test c rows trace (length o)) c w y.answer p in
+    let left : Left (Ok (needed c)) c rows trace o o' = subst (λ (z : Writing). Left z c rows trace o o') e₁ y.left in
     record {
-      answer = e₁ ∙ ap (λ (k : ℕ). Written k) (sym n);
+      answer = e₁ ∙ ap (λ (k : ℕ). Ok k) (sym n);
       bytes = ap (λ (k : ℕ). take k o') n ∙ one_file (take (needed c) o') s c rows trace left.file i;
     }

@@ -1,51 +1,35 @@
--- What the stores of the writer make: one block, block after block, and the file. Assumes nothing.
-use mathlib.Core.Path.{◌≡◌, refl, sym, ap, ◌∙◌}
+-- What the stores of the writer make: one block, and block after block. Assumes nothing.
+use mathlib.Core.Path.{◌≡◌, refl, sym, ap, ap₂, ◌∙◌}
 use mathlib.Core.List.{List, [], ◌++◌, append_assoc, append-nil}
-use Prim.Native.Nat.{ℕ, zero, suc, ◌+◌, ◌*◌, ◌-◌, ◌≤◌, ◌<◌}
+use Prim.Native.Nat.{ℕ, zero, suc, ◌+◌, ◌*◌, ◌-◌, ◌≤◌, min}
 use native.Mathlib.Numerals.{add-one}
+use native.Mathlib.Decide.{dec_le}
 use native.Mathlib.Omega.{arith}
-use lib.ListN.{length, take, drop, replicate, length-append, length-drop, length-replicate, replicate-append-replicate, drop_of_length-le, get_or-append}
-use lib.Seq.{sets, sets-eq, take-length, take_all, take_at, drop_at, drop-drop}
+use lib.ListN.{length, take, drop, replicate, length-append, length-drop, replicate-append-replicate, drop_of_length-le, get_or-append}
+use lib.Seq.{take_all, take_at, drop_at, drop-drop}
+use Rattle.std.proofs.lemmas.List.{drop-replicate, nil_from_length}
 use borrow.Rule.Slice.PartMut.{put_mid}
-use Rattle.lent.specs.Lent.{put_at}
-use Rattle.lent.proofs.Laws.{put_at_fits}
-use Rattle.block.specs.Limits.{block_size, payload_at, check_at, room, setup_kind, row_kind, event_kind}
+use Rattle.block.specs.Limits.{block_size, payload_at, check_at, room}
 use Rattle.block.specs.Block.{check}
-use Rattle.house.specs.declared.answer.Contents.{Contents}
 use Rattle.writer.specs.Writing.{blocks_for}
-use Rattle.writer.specs.Layout.{spelling, header, body, block_of, piece, run_of, all_of, setup_of, file_of}
+use Rattle.writer.specs.Layout.{spelling, header, body, block_of, piece, run_of, all_of}
 use Rattle.writer.proofs.Blocks.{check_same, length_body, length_block}
 use Rattle.writer.proofs.Files.{piece_short}
 
 -- ONE BLOCK
 
+-- a slice's last part overwritten
+put_last : (at : ℕ) (l s : List ℕ) → put_mid at (length l - at) l s ≡ take at l ++ s
+put_last at l s =
+    let short : length (drop at l) ≤ length l - at = omega (arith, length-drop at l) in
+    let none : drop (length l - at) (drop at l) ≡ [] = drop_of_length-le (drop at l) short in
+    ap (λ (x : List ℕ). take at l ++ (s ++ x)) none ∙ ap (λ (x : List ℕ). take at l ++ x) (append-nil s)
+
 -- zeros after n of them
-tail : (n : ℕ) → n ≤ room → drop {A = ℕ} n (replicate (room + 2) 0) ≡ replicate (room - n) 0 ++ replicate 2 0
+tail : (n : ℕ) → n ≤ room → drop (payload_at + n - payload_at) (replicate {A = ℕ} (room + 2) 0) ≡ replicate (room - n) 0 ++ replicate 2 0
 tail n h =
-    let e : room + 2 ≡ n + (room - n + 2) = omega arith in
-    ap (λ (k : ℕ). drop {A = ℕ} n (replicate k 0)) e
-    ∙ ap (drop n) (sym (replicate-append-replicate n (room - n + 2) 0))
-    ∙ drop_at (replicate n 0) (replicate (room - n + 2) 0) n (length-replicate n 0)
-    ∙ sym (replicate-append-replicate (room - n) 2 0)
-
--- the payload over zeros
-filled : (q k : ℕ) (p : List ℕ) → length p ≤ room
-    → put_at (header q k (length p) ++ replicate (room + 2) 0) payload_at p ≡ body q k p ++ replicate 2 0
-unfolding body
-filled q k p h =
-    let head = header q k (length p) in
-    put_at_fits (head ++ replicate (room + 2) 0) payload_at p (simp length-append (omega arith))
-    ∙ ap (λ (l : List ℕ). head ++ l ++ drop (payload_at + length p) (head ++ replicate (room + 2) 0)) (take-length p)
-    ∙ ap (λ (l : List ℕ). head ++ p ++ l) (sym (drop-drop (length p) payload_at (head ++ replicate (room + 2) 0)) ∙ tail (length p) h)
-    ∙ sym (append_assoc (head ++ p) (replicate (room - length p) 0) (replicate 2 0))
-
--- the check at the end
-ended : (l c : List ℕ) → length l ≡ check_at → length c ≡ 2 → sets (l ++ replicate 2 0) check_at c ≡ l ++ c
-ended l c h k =
-    let g : length (l ++ replicate 2 0) ≡ block_size = simp length-append (omega arith) in
-    let f : length (l ++ replicate 2 0) ≤ check_at + length c = omega arith in
-    sets-eq c (l ++ replicate 2 0) check_at (omega arith)
-    ∙ rw (take_at l (replicate 2 0) check_at h, drop_of_length-le (l ++ replicate 2 0) f, append-nil)
+    let e : room + 2 - (payload_at + n - payload_at) ≡ room - n + 2 = omega arith in
+    rw (drop-replicate {X = ℕ} (payload_at + n - payload_at) (room + 2) 0, e) (sym (replicate-append-replicate (room - n) 2 0))
 
 -- the check's own bytes are not in it
 checked : (q k : ℕ) (p : List ℕ) → length p ≤ room → check (body q k p ++ replicate 2 0) ≡ check (body q k p)
@@ -53,31 +37,49 @@ checked q k p h =
     check_same (body q k p ++ replicate 2 0) (body q k p)
     (λ i l. get_or-append (body q k p) (replicate 2 0) 0 i (omega (arith, length_body q k p h)))
 
--- cleared, headed, filled, checked and ended, the bytes are the block
-pub written : (q k n m : ℕ) (p o o₁ o₂ o₃ o₄ : List ℕ) → length o ≡ block_size → length p ≤ room → m ≡ length p
-    → o₁ ≡ replicate (length o) 0 → o₂ ≡ sets o₁ 0 (header q k m) → o₃ ≡ put_at o₂ payload_at p
-    → n ≡ check o₃ → o₄ ≡ sets o₃ check_at (spelling n) → o₄ ≡ block_of q k p
-unfolding block_of
-written q k n m p o o₁ o₂ o₃ o₄ h l e e₁ e₂ e₃ e₄ e₅ =
-    let a₁ : o₁ ≡ replicate block_size 0 = e₁ ∙ ap (λ (j : ℕ). replicate j 0) h in
-    let a₂ : o₂ ≡ header q k (length p) ++ replicate (room + 2) 0 = e₂ ∙ rw (a₁, e) in
-    let a₃ : o₃ ≡ body q k p ++ replicate 2 0 = e₃ ∙ rw a₂ (filled q k p l) in
-    let a₄ : n ≡ check (body q k p) = e₄ ∙ ap check a₃ ∙ checked q k p l in
-    e₅ ∙ rw (a₃, a₄) (ended (body q k p) (spelling (check (body q k p))) (length_body q k p l) refl)
+-- the header and the payload over zeros, and the check at the end
+module _ (q k : ℕ) (p o h p' : List ℕ) (e : o ≡ replicate block_size 0) (f : h ≡ header q k (length p)) (g : p' ≡ p) (l : length p ≤ room) where
+  abbrev filled : List ℕ
+  filled = put_mid payload_at (payload_at + length p - payload_at) (h ++ drop payload_at o) p'
+
+  filled_is : filled ≡ body q k p ++ replicate 2 0
+  unfolding body
+  filled_is =
+      let head = header q k (length p) in
+      let over : h ++ drop payload_at o ≡ head ++ replicate (room + 2) 0 = rw (e, f) in
+      ap₂ (λ (x y : List ℕ). put_mid payload_at (payload_at + length p - payload_at) x y) over g
+      ∙ ap (λ (x : List ℕ). head ++ (p ++ x)) (tail (length p) l)
+      ∙ simp append_assoc
+
+  pub written : (n : ℕ) (s : List ℕ) → n ≡ check filled → s ≡ spelling n → put_mid check_at (length filled - check_at) filled s ≡ block_of q k p
+  unfolding block_of
+  written n s c d =
+      let m : n ≡ check (body q k p) = c ∙ ap check filled_is ∙ checked q k p l in
+      put_last check_at filled s
+      ∙ ap (λ (x : List ℕ). take check_at x ++ s) filled_is
+      ∙ ap (λ (x : List ℕ). x ++ s) (take_at (body q k p) (replicate 2 0) check_at (length_body q k p l))
+      ∙ ap (λ (x : List ℕ). body q k p ++ x) (d ∙ ap spelling m)
 
 -- A PAYLOAD'S PIECES
 
--- what is left
-pub piece_last : (p : List ℕ) (k : ℕ) → length p - room * k < room → take (length p - room * k) (drop (room * k) p) ≡ piece p k
-piece_last p k h =
-    let n : length (drop (room * k) p) ≡ length p - room * k = length-drop (room * k) p in
-    take_all (length p - room * k) (drop (room * k) p) (omega arith) ∙ sym (take_all room (drop (room * k) p) (omega arith))
+-- a chunk that comes off is the piece, and leaves what is behind it
+chunk_is : (r x y : List ℕ) → r ≡ x ++ y → length x ≡ min room (length r) → (x ≡ take room r) × (y ≡ drop room r)
+chunk_is r x y e f =
+    elim (dec_le room (length r)) [
+      | yes l ↦ (rw e (sym (take_at x y room (omega arith))), rw e (sym (drop_at x y room (omega arith))))
+      | no l ↦
+          let n : length r ≡ length x + length y = ap length e ∙ length-append x y in
+          let none : y ≡ [] = nil_from_length y (omega arith) in
+          let all : x ≡ r = sym (e ∙ ap (λ (z : List ℕ). x ++ z) none ∙ append-nil x) in
+          (all ∙ sym (take_all room r (omega arith)), none ∙ sym (drop_of_length-le r {i = room} (omega arith)))
+    ]
 
--- a full one
-pub piece_whole : (p : List ℕ) (k : ℕ) → take (room * k + room - room * k) (drop (room * k) p) ≡ piece p k
-piece_whole p k =
-    let e : room * k + room - room * k ≡ room = omega arith in
-    ap (λ (n : ℕ). take n (drop (room * k) p)) e
+pub piece_next : (p r x y : List ℕ) (k : ℕ) → r ≡ drop (room * k) p → r ≡ x ++ y → length x ≡ min room (length r)
+    → (x ≡ piece p k) × (y ≡ drop (room * (k + 1)) p)
+piece_next p r x y k d e f =
+    let (is, rest) = chunk_is r x y e f in
+    let at : room * k + room ≡ room * (k + 1) = omega arith in
+    (is ∙ ap (take room) d, rest ∙ ap (drop room) d ∙ drop-drop room (room * k) p ∙ ap (λ (i : ℕ). drop i p) at)
 
 -- BLOCK AFTER BLOCK
 
@@ -122,46 +124,3 @@ module _ (q n : ℕ) (p : List ℕ) where
       let short : length o₀ ≤ block_size * k = omega arith in
       let none : drop (block_size * k) o₀ ≡ [] = drop_of_length-le o₀ short in
       e ∙ ap (λ (z : List ℕ). run_of q n p k ++ z) none ∙ append-nil (run_of q n p k) ∙ ap (run_of q n p) f
-
--- THE FILE
-
--- a part behind another, and a last one behind both
-module _ (o b r : List ℕ) (n : ℕ) where
-  abbrev both : List ℕ
-  both = put_mid block_size (block_size + block_size * n - block_size) (b ++ drop block_size o) r
-
-  abbrev rest : List ℕ
-  rest = drop (block_size + block_size * n - block_size) (drop block_size (b ++ drop block_size o))
-
-  both_is : length b ≡ block_size → both ≡ b ++ r ++ rest
-  both_is h =
-      ap (λ (l : List ℕ). l ++ (r ++ rest)) (take_at b (drop block_size o) block_size h) ∙ sym (append_assoc b r rest)
-
-  both_long : length b ≡ block_size → length r ≡ block_size * n → length (b ++ r) ≡ block_size + block_size * n
-  both_long h k = simp length-append (omega arith)
-
-  pub parts_put : length b ≡ block_size → length r ≡ block_size * n → (t : List ℕ)
-      → put_mid (block_size + block_size * n) (length both - (block_size + block_size * n)) both t ≡ b ++ r ++ t
-  parts_put h k t =
-      let at = block_size + block_size * n in
-      let front : take at both ≡ b ++ r = ap (take at) (both_is h) ∙ take_at (b ++ r) rest at (both_long h k) in
-      let short : length (drop at both) ≤ length both - at = omega (arith, length-drop at both) in
-      let none : drop (length both - at) (drop at both) ≡ [] = drop_of_length-le (drop at both) short in
-      ap (λ (l : List ℕ). l ++ (t ++ drop (length both - at) (drop at both))) front
-      ∙ ap (λ (l : List ℕ). b ++ r ++ (t ++ l)) none
-      ∙ ap (λ (l : List ℕ). b ++ r ++ l) (append-nil t)
-
-pub file_put : (c : Contents) (rows trace o s b r t : List ℕ) (n : ℕ) → s ≡ setup_of c → n ≡ blocks_for (length rows)
-    → b ≡ block_of setup_kind 0 s → r ≡ all_of row_kind 1 rows → t ≡ all_of event_kind (1 + n) trace
-    → put_mid (block_size + block_size * n) (length (both o b r n) - (block_size + block_size * n)) (both o b r n) t ≡ file_of c rows trace
-unfolding file_of
-file_put c rows trace o s b r t n es en eb er et =
-    let few : length s ≤ room = rw es (omega arith) in
-    let lb : length b ≡ block_size = ap length eb ∙ length_block setup_kind 0 s few in
-    let lr : length r ≡ block_size * n = ap length er ∙ length_run row_kind 1 rows (blocks_for (length rows)) ∙ ap (λ (i : ℕ). block_size * i) (sym en) in
-    let first : b ≡ block_of setup_kind 0 (setup_of c) = eb ∙ ap (block_of setup_kind 0) es in
-    let last : t ≡ all_of event_kind (1 + blocks_for (length rows)) trace = et ∙ ap (λ (i : ℕ). all_of event_kind (1 + i) trace) en in
-    parts_put o b r n lb lr t
-    ∙ ap (λ (l : List ℕ). l ++ r ++ t) first
-    ∙ ap (λ (l : List ℕ). block_of setup_kind 0 (setup_of c) ++ l ++ t) er
-    ∙ ap (λ (l : List ℕ). block_of setup_kind 0 (setup_of c) ++ all_of row_kind 1 rows ++ l) last

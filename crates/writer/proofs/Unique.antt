@@ -1,19 +1,21 @@
 -- Files that hold the same are the same: block after block, the kind and the payload are settled by what is still to be held.
 -- Assumes nothing.
 use mathlib.Core.Path.{◌≡◌, refl, sym, ap, ap₂, ◌∙◌}
-use mathlib.Core.List.{List, [], ◌∷◌, ◌++◌, append_assoc, append-nil}
+use mathlib.Core.List.{List, [], ◌++◌, append_assoc, append-nil}
 use mathlib.Core.Logic.{⊎_elim}
 use Prim.Native.Nat.{ℕ, zero, suc, ◌+◌, ◌*◌, ◌-◌, ◌≤◌, ◌<◌, min}
 use native.Mathlib.Numerals.{add-one}
 use native.Mathlib.Nat.{add-zero}
 use native.Mathlib.Decide.{dec_le, ℕ_discrete}
 use native.Mathlib.Omega.{arith}
+use borrow.Author.Count.{below_more}
+use Rattle.std.proofs.lemmas.List.{append_cancel_left}
 use lib.ListN.{length, take, drop, get_or, length-append, length-take, length-drop}
-use lib.Seq.{take_all, take_at, take-add, get_or-take, get_or-drop, ext_get_or, drop-append_seam}
+use lib.Seq.{take_all, take_at, take-add, get_or-take, get_or-drop, ext_get_or}
 use Rattle.block.specs.Limits.{block_size, payload_at, room, row_kind, event_kind, setup_size}
 use Rattle.block.specs.Block.{byte, kind, used, payload, share, GoodBlock}
 use Rattle.block.proofs.Blocks.{share_own, share_none}
-use Rattle.house.specs.File.{block_at, blocks, block_before, joined, GoodForm, source_of, setup, contents_of}
+use Rattle.house.specs.File.{block_at, blocks, block_before, joined, GoodForm, source_of, setup, contents_of, source_byte}
 use Rattle.house.specs.declared.answer.Contents.{Contents}
 use Rattle.house.proofs.Files.{joined_none, joined_more}
 use Rattle.writer.specs.Writing.{Spelt, IsFile}
@@ -37,10 +39,6 @@ tail_is q f k (suc m) =
     ∙ tail_is q f (suc k) m
     ∙ ap (λ (l : List ℕ). l ++ tail q f (suc k) m) (ap (joined q f) (sym (add-one k)) ∙ joined_more q f k)
     ∙ append_assoc (joined q f k) (share q (block_at f k)) (tail q f (suc k) m)
-
-empty : (l : List ℕ) → length l ≡ 0 → l ≡ []
-empty [] e = refl
-empty (x ∷ l) e = absurd (omega arith)
 
 -- a payload of so many bytes, and what follows if it is full
 piece_of : (p rest : List ℕ) (u : ℕ) → length p ≡ u → u ≤ room → (u < room → rest ≡ []) → take room (p ++ rest) ≡ p
@@ -113,21 +111,16 @@ module _ (f : List ℕ) (g : GoodForm f) where
 
 -- TWO FILES
 
--- what follows the same is the same
-rest_same : (p x y : List ℕ) → p ++ x ≡ p ++ y → x ≡ y
-rest_same p x y e = sym (drop-append_seam p x) ∙ ap (drop (length p)) e ∙ drop-append_seam p y
-
 none_empty : (l : List ℕ) → 0 < length l → l ≡ [] → ⊥
 none_empty l h e = absurd (omega (arith, ap length e))
 
+byte_back : (x : ℕ) → x ≤ 1 → source_byte (source_of x) ≡ x
+byte_back zero l = refl
+byte_back (suc zero) l = refl
+byte_back (suc (suc x)) l = absurd (omega arith)
+
 source_byte_same : (x y : ℕ) → source_of x ≡ source_of y → x ≤ 1 → y ≤ 1 → x ≡ y
-source_byte_same zero zero e l m = refl
-source_byte_same zero (suc zero) e l m = absurd (let z : ◌≡◌ {A = ℕ} 0 1 = cc in omega arith)
-source_byte_same (suc zero) zero e l m = absurd (let z : ◌≡◌ {A = ℕ} 0 1 = cc in omega arith)
-source_byte_same (suc zero) (suc zero) e l m = refl
-source_byte_same zero (suc (suc y)) e l m = absurd (omega arith)
-source_byte_same (suc zero) (suc (suc y)) e l m = absurd (omega arith)
-source_byte_same (suc (suc x)) y e l m = absurd (omega arith)
+source_byte_same x y e l m = sym (byte_back x l) ∙ ap source_byte e ∙ byte_back y m
 
 -- byte i of the setup stands in block 0
 setup_in : (h : List ℕ) (i : ℕ) → i < setup_size → byte (block_at h 0) (payload_at + i) ≡ setup h i
@@ -151,7 +144,7 @@ module _ (f g : List ℕ) (c : Contents) (rows trace : List ℕ) (a : IsFile f c
   -- so the same is still to be held
   tail_same : (q k x y : ℕ) → joined q f (blocks f) ≡ joined q g (blocks g) → k + x ≡ blocks f → k + y ≡ blocks g → Same k → tail q f k x ≡ tail q g k y
   tail_same q k x y e l m h =
-      rest_same (joined q f k) (tail q f k x) (tail q g k y)
+      append_cancel_left (joined q f k) (tail q f k x) (tail q g k y)
       (sym (tail_is q f k x)
       ∙ ap (joined q f) l
       ∙ e
@@ -263,11 +256,7 @@ module _ (f g : List ℕ) (c : Contents) (rows trace : List ℕ) (a : IsFile f c
       ⊎_elim (next_row k x y z l h m) (next_event k x y z l h m) ((a.form.good k (omega arith)).later_kind z)
 
   add_same : (k : ℕ) → Same k → block_at f k ≡ block_at g k → Same (suc k)
-  add_same k h e j l =
-      elim (dec_le (suc j) k) [
-        | yes m ↦ h j m
-        | no m ↦ let d : j ≡ k = omega arith in ap (block_at f) d ∙ e ∙ ap (block_at g) (sym d)
-      ]
+  add_same k h e j l = below_more (λ (i : ℕ). block_at f i ≡ block_at g i) k h e j (omega arith)
 
   pub all_same : (k : ℕ) → suc k ≤ blocks f → (suc k ≤ blocks g) × Same (suc k)
   all_same zero l = (some_g, add_same zero (λ j m. absurd (omega arith)) first_same)

@@ -1,19 +1,16 @@
 -- What is shown of writing, each under one sentence. proofs/Laws.antt proves them all. Assumes nothing.
-use Rattle.std.specs.Prelude.{◌≡◌, List, ◌↔◌, ℕ, ◌≤◌, ◌<◌, length, take}
+use Rattle.std.specs.Prelude.{◌≡◌, List, ◌↔◌, ℕ, ◌≤◌, ◌<◌, length, take, Ok, Err}
 use Rattle.block.specs.Block.{byte}
 use Rattle.house.specs.Limits.{most_rows, most_events}
 use Rattle.house.specs.File.{GoodForm, rows_of, events_of, contents_of}
 use Rattle.house.specs.Reading.{given, Answers}
 use Rattle.house.specs.Laws.{GoodContents, Starts}
 use Rattle.house.specs.declared.answer.Contents.{Contents}
-use Rattle.house.specs.declared.answer.Reading.{Reading}
-use Rattle.house.specs.declared.answer.Reading.TheVariants as reading
+use Rattle.house.specs.Verdict.{Reading}
 use Rattle.house.specs.declared.answer.Refusal.{Refusal}
-use Rattle.house.specs.declared.answer.Verdict.TheVariants.{Passed}
 use Rattle.writer.specs.Writing.{needed, write_test, IsFile, Writes}
 use Rattle.writer.specs.Layout.{file_of}
-use Rattle.writer.specs.declared.answer.Writing.{Writing}
-use Rattle.writer.specs.declared.answer.Writing.TheVariants.{Written, Refused}
+use Rattle.writer.specs.Answer.{Writing}
 
 -- THE FILE
 
@@ -51,7 +48,7 @@ GoodIsFile = (s : List ℕ) → Bytes s → GoodForm s → IsFile s (contents_of
 abbrev pub WriteExactly : Type 0
 WriteExactly =
     (c : Contents) (rows trace : List ℕ) (space : ℕ) → Counted c rows trace
-    → write_test c rows trace space ≡ Passed ↔ (GoodContents c rows trace × (needed c ≤ space))
+    → write_test c rows trace space ≡ Ok tt ↔ (GoodContents c rows trace × (needed c ≤ space))
 
 -- Two writings of the same things into the same buffer give one answer and leave the same bytes.
 abbrev pub OneWriting : Type 0
@@ -61,28 +58,28 @@ OneWriting =
 
 -- A refused write writes nothing.
 abbrev pub NothingWritten : Type 0
-NothingWritten = (c : Contents) (rows trace o : List ℕ) (r : Refusal) (o' : List ℕ) → Writes c rows trace o (Refused r) o' → o' ≡ o
+NothingWritten = (c : Contents) (rows trace o : List ℕ) (r : Refusal) (o' : List ℕ) → Writes c rows trace o (Err r) o' → o' ≡ o
 
 -- BOTH ROUND TRIPS
 
 -- Reading back gives the same things: what was written is read, into any buffers that have room, and counts, bounds, source, rows and
 -- events are those that were given.
 pub record SameThings (c : Contents) (rows trace d e : List ℕ) (r : Reading) (d' e' : List ℕ) : Type 0 where
-  pub contents : r ≡ reading.Good c
+  pub contents : r ≡ Ok c
   pub rows_back : Starts d d' rows (length rows)
   pub events_back : Starts e e' trace (length trace)
 
 abbrev pub ReadsBack : Type 0
 ReadsBack =
     (c : Contents) (rows trace o : List ℕ) (n : ℕ) (o' d e : List ℕ) (r : Reading) (d' e' : List ℕ)
-    → Counted c rows trace → Writes c rows trace o (Written n) o'
+    → Counted c rows trace → Writes c rows trace o (Ok n) o'
     → length rows ≤ length d → length trace ≤ length e → Answers (take n o') d e r d' e'
     → SameThings c rows trace d e r d' e'
 
 -- Writing what was read from any good file gives the same bytes: the source, counts and bounds that `read` answered, and the rows and the
 -- events that it left at the starts of its buffers, are what `write` is given, with a buffer that has room.
 pub record SameBytes (s : List ℕ) (w : Writing) (o' : List ℕ) : Type 0 where
-  pub answer : w ≡ Written (length s)
+  pub answer : w ≡ Ok (length s)
   pub bytes : take (length s) o' ≡ s
 
 abbrev pub WritesWhatWasRead : Contents → List ℕ → List ℕ → List ℕ → Writing → List ℕ → Type 0
@@ -92,6 +89,6 @@ WritesWhatWasRead c rows trace o w o' =
 abbrev pub WritesBack : Type 0
 WritesBack =
     (s d e : List ℕ) (c : Contents) (d' e' o : List ℕ) (w : Writing) (o' : List ℕ)
-    → Bytes s → Answers s d e (reading.Good c) d' e' → length s ≤ length o
+    → Bytes s → Answers s d e (Ok c) d' e' → length s ≤ length o
     → WritesWhatWasRead c (take c.rows d') (take c.events e') o w o'
     → SameBytes s w o'

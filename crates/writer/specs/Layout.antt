@@ -3,9 +3,8 @@
 use Rattle.std.specs.Prelude.{List, [], ◌∷◌, ◌++◌, ℕ, zero, suc, ◌+◌, ◌*◌, ◌-◌, ◌/◌, ◌%◌, length, take, drop, replicate}
 use Rattle.block.specs.Limits.{room, setup_kind, row_kind, event_kind}
 use Rattle.block.specs.Block.{check}
+use Rattle.house.specs.File.{source_byte}
 use Rattle.house.specs.declared.answer.Contents.{Contents}
-use Rattle.house.specs.declared.answer.Source.{Source}
-use Rattle.house.specs.declared.answer.Source.TheVariants.{Rows, Standard}
 use Rattle.writer.specs.Writing.{blocks_for}
 
 -- A number of two bytes has the low byte first.
@@ -36,10 +35,6 @@ run_of kind number p (suc j) = run_of kind number p j ++ block_of kind (number +
 -- All blocks of one kind.
 abbrev pub all_of : ℕ → ℕ → List ℕ → List ℕ
 all_of kind number p = run_of kind number p (blocks_for (length p))
-
-abbrev pub source_byte : Source → ℕ
-source_byte Rows = 0
-source_byte Standard = 1
 
 -- Block 0's payload: states, inputs, outputs, B, c, source.
 abbrev pub setup_of : Contents → List ℕ

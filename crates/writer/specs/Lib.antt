@@ -1,3 +1,4 @@
+pub mod Answer
 pub mod Writing
 pub mod Layout
 pub mod Refusals

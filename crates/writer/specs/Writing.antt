@@ -1,6 +1,6 @@
 -- Document 02, L3: what writing a file answers, and what it leaves in the buffer. What the bytes of a file mean is the reader's
 -- definition (crate `house`, specs/File.antt); there is no other here. Assumes nothing.
-use Rattle.std.specs.Prelude.{◌≡◌, List, [], ◌∷◌, ℕ, ◌+◌, ◌*◌, ◌-◌, ◌/◌, ◌≤◌, ◌<◌, leb, length, take, drop}
+use Rattle.std.specs.Prelude.{◌≡◌, List, [], ◌∷◌, ℕ, ◌+◌, ◌*◌, ◌-◌, ◌/◌, ◌≤◌, ◌<◌, leb, length, take, drop, Ok, Err}
 use Rattle.table.specs.declared.answer.Refusal.TheVariants.{Buffer}
 use Rattle.block.specs.Limits.{block_size, room, check_at}
 use Rattle.block.specs.Block.{byte}
@@ -9,10 +9,8 @@ use Rattle.house.specs.File.{block_at, blocks, GoodForm, rows_of, events_of, con
 use Rattle.house.specs.Reading.{held_test}
 use Rattle.house.specs.declared.answer.Contents.{Contents}
 use Rattle.house.specs.declared.answer.Refusal.TheVariants.{Content}
-use Rattle.house.specs.declared.answer.Verdict.{Verdict}
-use Rattle.house.specs.declared.answer.Verdict.TheVariants as verdict
-use Rattle.writer.specs.declared.answer.Writing.{Writing}
-use Rattle.writer.specs.declared.answer.Writing.TheVariants.{Written, Refused}
+use Rattle.house.specs.Verdict.{Verdict}
+use Rattle.writer.specs.Answer.{Writing}
 
 -- HOW LONG THE FILE IS
 
@@ -33,8 +31,8 @@ write_test c rows trace space =
 
 -- How many bytes were written, or why none.
 abbrev pub answer : Verdict → Contents → Writing
-answer verdict.Passed c = Written (needed c)
-answer (verdict.Refused r) c = Refused r
+answer (Ok _) c = Ok (needed c)
+answer (Err r) c = Err r
 
 -- THE FILE
 
@@ -62,8 +60,8 @@ pub record Holds (c : Contents) (rows trace o : List ℕ) (n : ℕ) (o' : List �
 
 -- A refused write writes nothing.
 abbrev pub Left : Writing → Contents → List ℕ → List ℕ → List ℕ → List ℕ → Type 0
-Left (Written n) c rows trace o o' = Holds c rows trace o n o'
-Left (Refused r) c rows trace o o' = o' ≡ o
+Left (Ok n) c rows trace o o' = Holds c rows trace o n o'
+Left (Err r) c rows trace o o' = o' ≡ o
 
 -- Writing these contents, rows and events into the buffer o: the answer, and the buffer afterwards.
 pub record Writes (c : Contents) (rows trace o : List ℕ) (w : Writing) (o' : List ℕ) : Type 0 where

@@ -2,11 +2,11 @@
 ghost use Rattle.std.specs.Prelude.{◌≡◌, ◌≤◌, length};
 ghost use Rattle.block.specs.Limits.{block_size};
 ghost use Rattle.writer.specs.Writing.{blocks_for, needed};
-ghost use Rattle.writer.specs.Layout.{source_byte, setup_of, file_of};
+ghost use Rattle.writer.specs.Layout.{setup_of, file_of};
 
 use super::payload::{blocks_for, put, put_all};
-use block::{BLOCK, EVENTS, ROWS, SETUP};
-use house::{Contents, Source};
+use block::{BLOCK, Kind};
+use house::Contents;
 
 // How long the file is that holds these contents.
 pub(crate) fn needed(c: Contents) -> usize
@@ -17,27 +17,17 @@ pub(crate) fn needed(c: Contents) -> usize
     BLOCK * (1 + blocks_for(c.rows) + blocks_for(c.events))
 }
 
-fn source_byte(source: Source) -> u8
-    ensures { result ≡ source_byte source }
-{
-    match source {
-        Source::Rows => 0,
-        Source::Standard => 1,
-    }
-}
-
 // Block 0's payload.
 fn setup(c: Contents) -> [u8; 6]
     ensures { result ≡ setup_of c }
 {
-    let source = c.source;
     [
         c.states,
         c.inputs,
         c.outputs,
         c.waiting,
         c.losses,
-        source_byte(source),
+        u8::from(c.source),
     ]
 }
 
@@ -50,10 +40,10 @@ pub(crate) fn lay(out: &mut [u8], c: Contents, rows: &[u8], trace: &[u8])
     requires out_len { length out.old ≡ needed c }
     ensures { out.new ≡ file_of c rows.now trace.now }
 {
-    let setup = setup(c);
-    let n = blocks_for(rows.len());
-    let middle = BLOCK + BLOCK * n;
-    put(&mut out[..BLOCK], SETUP, 0, &setup);
-    put_all(&mut out[BLOCK..middle], ROWS, 1, rows);
-    put_all(&mut out[middle..], EVENTS, 1 + n, trace);
+    let row_blocks = blocks_for(rows.len());
+    let (first, later) = out.split_at_mut(BLOCK);
+    let (of_rows, of_events) = later.split_at_mut(BLOCK * row_blocks);
+    put(first, Kind::Setup, 0, &setup(c));
+    put_all(of_rows, Kind::Rows, 1, rows);
+    put_all(of_events, Kind::Events, 1 + row_blocks as u16, trace);
 }

@@ -1,92 +1,59 @@
 // A payload in its blocks: in one, and in as many of one kind as it takes.
 ghost use Rattle.std.specs.Prelude.{◌≡◌, ◌≤◌, ◌<◌, ◌*◌, length};
-ghost use Rattle.std.proofs.lemmas.List.Edits.{sets};
-ghost use Rattle.block.specs.Limits.{block_size, check_at, room};
+ghost use Rattle.block.specs.Limits.{block_size, room};
+ghost use Rattle.block.specs.Block.{kind_number};
 ghost use Rattle.writer.specs.Writing.{blocks_for};
-ghost use Rattle.writer.specs.Layout.{spelling, header, block_of, piece, all_of};
+ghost use Rattle.writer.specs.Layout.{header, block_of, all_of};
 
-use super::bytes::{clear, high, low};
-use block::{BLOCK, CHECK_AT, PAYLOAD_AT, ROOM};
+use block::{BLOCK, CHECK_AT, Kind, PAYLOAD_AT, ROOM};
 
-// Puts the six bytes of a header at the start.
-fn put_header(out: &mut [u8], kind: u8, number: usize, used: usize)
-    requires out_len { length out.old ≡ block_size }
-    requires number_bound { number < 65536 }
-    requires used_bound { used < 65536 }
-    ensures { out.new ≡ sets out.old 0 (header kind number used) }
+// Kind, zero, block number, used count. A number of two bytes has the low byte first.
+fn header(kind: Kind, number: u16, used: u16) -> [u8; PAYLOAD_AT]
+    ensures { result ≡ header (kind_number kind) number used }
 {
-    let a = low(number);
-    let b = high(number);
-    let c = low(used);
-    let d = high(used);
-    out[0] = kind;
-    out[1] = 0;
-    out[2] = a;
-    out[3] = b;
-    out[4] = c;
-    out[5] = d;
-}
-
-// Puts the check at the end.
-fn put_check(out: &mut [u8], n: usize)
-    requires out_len { length out.old ≡ block_size }
-    requires n_bound { n < 65536 }
-    ensures { out.new ≡ sets out.old check_at (spelling n) }
-{
-    let a = low(n);
-    let b = high(n);
-    out[CHECK_AT] = a;
-    out[CHECK_AT + 1] = b;
+    let number = number.to_le_bytes();
+    let used = used.to_le_bytes();
+    [u8::from(kind), 0, number[0], number[1], used[0], used[1]]
 }
 
 // Writes block `number`, of this kind, with this payload. Whatever stood there before, the fill is zero.
-pub(crate) fn put(out: &mut [u8], kind: u8, number: usize, payload: &[u8])
+pub(crate) fn put(out: &mut [u8], kind: Kind, number: u16, payload: &[u8])
     requires out_len { length out.old ≡ block_size }
-    requires number_bound { number < 65536 }
     requires payload_len_bound { length payload.now ≤ room }
-    ensures { out.new ≡ block_of kind number payload.now }
+    ensures { out.new ≡ block_of (kind_number kind) number payload.now }
 {
-    clear(out);
-    put_header(out, kind, number, payload.len());
-    lent::put_bytes(payload, out, PAYLOAD_AT);
-    let check = block::check(out);
-    put_check(out, check);
+    let used = payload.len();
+    out.fill(0);
+    out[..PAYLOAD_AT].copy_from_slice(&header(kind, number, used as u16));
+    out[PAYLOAD_AT..PAYLOAD_AT + used].copy_from_slice(payload);
+    let check = block::check(out) as u16;
+    out[CHECK_AT..].copy_from_slice(&check.to_le_bytes());
 }
 
 // The blocks that n bytes of one kind take.
 pub(crate) fn blocks_for(n: usize) -> usize
     requires { n ≤ 4096 }
-    ensures { (result ≡ blocks_for n) × (result ≤ 9) }
+    ensures value { result ≡ blocks_for n }
+    ensures bound { result ≤ 9 }
 {
-    (n + (ROOM - 1)) / ROOM
-}
-
-// The part of a payload that stands in block k of its kind.
-fn piece(payload: &[u8], k: usize) -> &[u8]
-    requires { room * k ≤ length payload.now }
-    ensures { result.now ≡ piece payload.now k }
-{
-    let start = ROOM * k;
-    if payload.len() - start < ROOM {
-        return &payload[start..];
-    }
-    let end = start + ROOM;
-    &payload[start..end]
+    n.div_ceil(ROOM)
 }
 
 // Writes a payload into blocks of this kind, of which the first has this number.
-pub(crate) fn put_all(out: &mut [u8], kind: u8, first: usize, payload: &[u8])
+pub(crate) fn put_all(out: &mut [u8], kind: Kind, first: u16, payload: &[u8])
     requires payload_len_bound { length payload.now ≤ 4096 }
     requires first_bound { first ≤ 256 }
     requires out_len { length out.old ≡ block_size * blocks_for (length payload.now) }
-    ensures { out.new ≡ all_of kind first payload.now }
+    ensures { out.new ≡ all_of (kind_number kind) first payload.now }
 {
-    let n = blocks_for(payload.len());
-    let mut k = 0;
-    while k < n {
+    // By index: of what `chunks_mut` lends, the library's clauses don't say what the slice holds in the end.
+    for (k, piece) in payload.chunks(ROOM).enumerate() {
         let start = BLOCK * k;
-        let end = start + BLOCK;
-        put(&mut out[start..end], kind, first + k, piece(payload, k));
-        k += 1;
+        put(
+            &mut out[start..start + BLOCK],
+            kind,
+            first + k as u16,
+            piece,
+        );
     }
 }

@@ -9,7 +9,7 @@ use Rattle.table.proofs.Checks.{clash}
 use Rattle.lent.specs.Lent.{front}
 use Rattle.house.specs.Reading.{given}
 use Rattle.writer.specs.Writing.{Writes}
-use Rattle.writer.specs.declared.answer.Writing.{Writing}
+use Rattle.writer.specs.Answer.{Writing}
 use Rattle.writer.proofs.Laws.{one_writing}
 use Rattle.remake.specs.Remaking.{Rebinds, Retraces}
 use Rattle.remake.specs.Mending.{Mends}

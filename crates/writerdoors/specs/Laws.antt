@@ -1,7 +1,7 @@
 -- What is shown of the functions, each under one sentence. proofs/Laws.antt proves them all. Assumes nothing.
 use Rattle.std.specs.Prelude.{◌≡◌, Bool, false, List, ◌↔◌, ℕ, ◌<◌, length}
 use Rattle.house.specs.declared.answer.Source.{Source}
-use Rattle.writer.specs.declared.answer.Writing.{Writing}
+use Rattle.writer.specs.Answer.{Writing}
 use Rattle.writerdoors.specs.Results.{write_size, Making, WriteAnswers, RebindAnswers, RetraceAnswers, MendAnswers}
 
 -- Each function answers false exactly when the memory for its results is too short,

@@ -7,7 +7,7 @@ use Rattle.house.specs.declared.answer.Source.{Source}
 use Rattle.house.specs.declared.answer.Source.TheVariants.{Rows, Standard}
 use Rattle.writer.specs.Writing.{Writes}
 use Rattle.writer.specs.Refusals.{told_of, length_of}
-use Rattle.writer.specs.declared.answer.Writing.{Writing}
+use Rattle.writer.specs.Answer.{Writing}
 use Rattle.remake.specs.Remaking.{Rebinds, Retraces}
 use Rattle.remake.specs.Mending.{Mends}
 

@@ -7,63 +7,43 @@
 #![tactic(auto)]
 
 ghost use Rattle.std.specs.Prelude.{◌≡◌};
-ghost use Rattle.table.specs.Refusals.{told_at};
-ghost use Rattle.writer.specs.Refusals.{told_of, length_of};
-ghost use Rattle.writerdoors.specs.Results.{source_meant, write_results, WriteAnswers, RebindAnswers, RetraceAnswers, MendAnswers};
+ghost use Rattle.std.specs.Fn.{FnOnceReturnsAtMut};
+ghost use Rattle.writerdoors.specs.Results.{source_meant, write_results, Making, WriteAnswers, RebindAnswers, RetraceAnswers, MendAnswers};
 
-use house::Source;
-use table::Told;
-use writer::Writing;
+use house::{Refusal, Source};
+use table::{Rules, Told};
 
 // How many words the results are, of every function.
 const WRITE: usize = 4;
 
-// 0 is the rows that are given, anything else the standard box.
-fn meant(number: usize) -> Source
-    ensures { result ≡ source_meant number }
-{
-    if number == 0 {
-        Source::Rows
-    } else {
-        Source::Standard
-    }
-}
-
-// What is not refused has number 0, and places 0.
-fn nothing() -> Told
-    ensures { result ≡ told_at 0 0 }
-{
-    Told {
-        number: 0,
-        place: 0,
-        second: 0,
-    }
-}
-
-fn told_of(writing: Writing) -> Told
-    ensures { result ≡ told_of writing }
-{
-    match writing {
-        Writing::Written(_) => nothing(),
-        Writing::Refused(r) => house::tell(r),
-    }
-}
-
-fn length_of(writing: Writing) -> usize
-    ensures { result ≡ length_of writing }
-{
-    match writing {
-        Writing::Written(n) => n,
-        Writing::Refused(_) => 0,
-    }
-}
-
-fn of_write(writing: Writing) -> [u64; 4]
+// The number, both places, and how many bytes the file has.
+fn of_write(writing: Result<usize, Refusal>) -> [u64; WRITE]
     ensures { result ≡ write_results writing }
 {
-    let t = told_of(writing);
-    let n = length_of(writing);
-    [t.number as u64, t.place as u64, t.second as u64, n as u64]
+    let told = Told::of(writing);
+    [
+        u64::from(told.number),
+        told.place as u64,
+        told.second as u64,
+        writing.unwrap_or(0) as u64,
+    ]
+}
+
+// Does this work on the buffer, and puts its results to the start of `told`; nothing of it where `told` is too short for them.
+fn answered<F: FnOnce(&mut [u8]) -> Result<usize, Refusal>>(
+    out: &mut [u8],
+    told: &mut [u64],
+    work: F,
+) -> bool
+    requires { F.IsAlwaysCallable work }
+    ensures { Making (λ w o. FnOnceReturnsAtMut F.FnOnce work out.old w o) out.old told.old result out.new told.new }
+{
+    if told.len() < WRITE {
+        return false;
+    }
+    let results = of_write(work(out));
+    told[..WRITE].copy_from_slice(&results);
+    true
 }
 
 // Writes a house file. The source is 0 for the rows that are given, anything else for the standard box.
@@ -82,22 +62,17 @@ pub extern "C" fn rillmoth_write(
 ) -> bool
     ensures { WriteAnswers (source_meant source) rows.now states inputs outputs waiting losses trace.now out.old told.old result out.new told.new }
 {
-    if told.len() < WRITE {
-        return false;
-    }
-    let writing = writer::write(
-        meant(source),
-        rows,
-        states,
-        inputs,
-        outputs,
-        waiting,
-        losses,
-        trace,
-        &mut *out,
-    );
-    lent::put_words(&of_write(writing), &mut *told, 0);
-    true
+    answered(out, told, |out| {
+        let rules = Rules {
+            rows,
+            states,
+            inputs,
+            outputs,
+            waiting,
+            losses,
+        };
+        writer::write(Source::from(source), &rules, trace, out)
+    })
 }
 
 // Writes a house file with these bounds in place of its own, which are not looked at.
@@ -111,12 +86,7 @@ pub extern "C" fn rillmoth_rebind(
 ) -> bool
     ensures { RebindAnswers file.now waiting losses out.old told.old result out.new told.new }
 {
-    if told.len() < WRITE {
-        return false;
-    }
-    let rebound = remake::rebound(file, waiting, losses, &mut *out);
-    lent::put_words(&of_write(rebound), &mut *told, 0);
-    true
+    answered(out, told, |out| remake::rebound(file, waiting, losses, out))
 }
 
 // Writes a house file with this trace in place of its own.
@@ -129,12 +99,7 @@ pub extern "C" fn rillmoth_retrace<'a>(
 ) -> bool
     ensures { RetraceAnswers file.now trace.now out.old told.old result out.new told.new }
 {
-    if told.len() < WRITE {
-        return false;
-    }
-    let retraced = remake::retrace(file, trace, &mut *out);
-    lent::put_words(&of_write(retraced), &mut *told, 0);
-    true
+    answered(out, told, |out| remake::retrace(file, trace, out))
 }
 
 // Writes a house file with the check of block 0 put right. Of the file nothing but its length is tested.
@@ -142,10 +107,5 @@ pub extern "C" fn rillmoth_retrace<'a>(
 pub extern "C" fn rillmoth_mend(file: &[u8], out: &mut [u8], told: &mut [u64]) -> bool
     ensures { MendAnswers file.now out.old told.old result out.new told.new }
 {
-    if told.len() < WRITE {
-        return false;
-    }
-    let mended = remake::mend(file, &mut *out);
-    lent::put_words(&of_write(mended), &mut *told, 0);
-    true
+    answered(out, told, |out| remake::mend(file, out))
 }

@@ -1,35 +1,34 @@
 -- `block::check` meets its contract. The sum is that of the bytes passed, each at most 510 × 255. Assumes nothing.
-use mathlib.Core.Path.{◌≡◌, sym, ap, ◌∙◌}
-use Prim.Native.Nat.{ℕ, ◌+◌, ◌*◌, ◌%◌, ◌≤◌, ◌<◌}
-use native.Mathlib.Nat.{mul-le-mul}
-use native.Mathlib.Omega.{arith}
-use borrow.Author.Rules.{rules}
+use Rattle.std.proofs.Common.{ℕ, ◌+◌, ◌*◌, ◌%◌, ◌≤◌, sym, ap, ◌∙◌, arith, length, rules}
+use Rattle.std.proofs.Math.ListN.{length-take}
+use Rattle.std.proofs.Math.Nat.{mul-le-mul}
 use Rattle.block.specs.Limits.{check_at, modulus}
-use Rattle.block.proofs.Blocks.{weighed_none, weighed_more}
+use Rattle.block.proofs.Blocks.{weighed_none, weighed_more, weighed_all}
 use Rattle.block.proofs.check.Goals as goal
 
-small : {i x : ℕ} → i < check_at → x < 256 → (i + 1) * x ≤ 130050
-small h k = mul-le-mul {n₂ = 510} {m₂ = 255} (omega arith) (omega arith)
-
 pub loop-i-init : goal.loop-i-init
-loop-i-init c = (search rules, search rules, sym (weighed_none c.args.b.now))
+loop-i-init c = (search rules, sym (weighed_none c.args.b.now))
+
+small : (c : goal.After-from) → (c.loop-i.i + 1) * c.from.result ≤ 130050
+small c =
+    let n = ap length c.between-x-items.ensures ∙ length-take check_at c.args.b.now in
+    mul-le-mul {n₂ = 510} {m₂ = 255} (omega (arith, n)) (omega (arith, c.type_inv.x-items c.loop-i.i))
 
 pub overflow_mul-sum : goal.overflow_mul-sum
-overflow_mul-sum c = omega (arith, small c.loop-i-test.true c.wide.ensures.1)
+overflow_mul-sum c = omega (arith, small c)
 
 pub overflow_add-sum-in-loop-i : goal.overflow_add-sum-in-loop-i
-overflow_add-sum-in-loop-i c = omega (arith, small c.loop-i-test.true c.wide.ensures.1)
+overflow_add-sum-in-loop-i c =
+    let n = ap length c.between-x-items.ensures ∙ length-take check_at c.args.b.now in
+    omega (arith, small c, n)
 
 pub loop-i-preserved : goal.loop-i-preserved
-loop-i-preserved c =
-    let b = c.args.b.now in
-    let i = c.loop-i.i in (
-      search rules,
-      omega (arith, small c.loop-i-test.true c.wide.ensures.1),
-      omega (arith, weighed_more b i, ap (λ (x : ℕ). (i + 1) * x) (c.wide.ensures.0 ∙ c.byte.ensures)),
-    )
+loop-i-preserved c = (
+  omega (arith, small c),
+  omega (arith, weighed_more c.args.b.now _ c.loop-i.i c.from.result c.between-x-items.ensures c.loop-i-test.true c.from.ensures),
+)
 
 pub returns : goal.returns
 returns c =
-    let full : c.loop-i.i ≡ check_at = omega arith in
-    ap (λ (n : ℕ). n % modulus) (rw full at c.loop-i.invariant.2)
+    let n = ap length c.between-x-items.ensures ∙ length-take check_at c.args.b.now in
+    ap (λ (x : ℕ). x % modulus) (c.loop-i.invariant.1 ∙ weighed_all c.args.b.now check_at c.loop-i.i (omega (arith, n)))

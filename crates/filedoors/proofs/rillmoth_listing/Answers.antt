@@ -14,4 +14,4 @@ of_listing-requires c = listed_small _ _ _ _ _ c.text-summary.ensures
 pub returns : goal.returns
 returns c =
     lists_by c.text-summary.result (sym c.roomy.ensures ∙ c.if-not-roomy.false) c.text-summary.ensures c.of_listing.ensures
-    c.put_words.ensures
+    c.put.ensures

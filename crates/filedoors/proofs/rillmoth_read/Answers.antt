@@ -9,4 +9,4 @@ returns-then-told-lt-READ c = doors.short (lt-leb _ _ c.if-told-lt-READ.true)
 
 pub returns : goal.returns
 returns c =
-    reads_by c.read-reading.result (le-leb _ _ c.if-told-lt-READ.false) c.read-reading.ensures c.of_read.ensures c.put_words.ensures
+    reads_by c.read-reading.result (le-leb _ _ c.if-told-lt-READ.false) c.read-reading.ensures c.of_read.ensures c.put.ensures

@@ -13,4 +13,4 @@ of_run-requires c = ran_small _ _ _ _ _ _ _ _ _ _ c.run-ran.ensures
 
 pub returns : goal.returns
 returns c =
-    runs_by c.run-ran.result (le-leb _ _ c.if-told-lt-RUN.false) c.run-ran.ensures c.of_run.ensures c.put_words.ensures
+    runs_by c.run-ran.result (le-leb _ _ c.if-told-lt-RUN.false) c.run-ran.ensures c.of_run.ensures c.put.ensures

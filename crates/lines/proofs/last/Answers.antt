@@ -1,11 +1,17 @@
-use Rattle.lines.proofs.Building.{adds_then, adds_from}
 use Rattle.lines.specs.Lines.{last_line}
+use Rattle.lines.proofs.Building.{adds_then, adds_from}
+use Rattle.lines.proofs.Fitting.{last_fits}
 use Rattle.lines.proofs.last.Goals as goal
+use Rattle.lines.proofs.last.Goals.{in-None, in-Some}
 
-pub returns-in-None : goal.returns-in-None
+pub returns : goal.returns
 unfolding last_line
-returns-in-None c = rw c.in-None.is (adds_from c.empty.ensures c.add_all.ensures)
-
-pub returns-in-At : goal.returns-in-At
-unfolding last_line
-returns-in-At c = rw c.in-At.is (adds_from c.empty-in-At.ensures (adds_then (adds_then c.add_all-word.ensures c.add_number-told.ensures) c.add.ensures))
+returns c =
+    let fits = last_fits c.args.flag in
+    elim c.match-flag.branch [
+      | in-None w ↦ rw w.in-None.is
+          (adds_from c.new-line.ensures (adds_then w.push_all.ensures (rw w.line-is at c.push.ensures)) (rw w.in-None.is at fits))
+      | in-Some w ↦ rw w.in-Some.is
+          (adds_from c.new-line.ensures
+          (adds_then (adds_then w.push_all-in-Some.ensures w.push_number.ensures) (rw w.line-is at c.push.ensures)) (rw w.in-Some.is at fits))
+    ]

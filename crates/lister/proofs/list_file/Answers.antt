@@ -1,13 +1,17 @@
 -- `list_file` meets its contract. Assumes nothing.
-use mathlib.Core.Path.{ap, ◌∙◌}
-use Rattle.lister.specs.Listing.{unless_broken}
-use Rattle.lister.proofs.Built.{few_listed, comes}
+use mathlib.Core.Bool.{true, false}
+use mathlib.Core.Path.{refl}
+use Prim.Native.Nat.{ℕ}
+use lib.ListN.{length-replicate}
+use Rattle.std.proofs.lemmas.Bool.{false≢true}
+use Rattle.lister.proofs.Writing.{writes}
 use Rattle.lister.proofs.list_file.Goals as goal
 
-pub pieces-requires : goal.pieces-requires
-pieces-requires g c = few_listed c.judge-judged.ensures
+pub returns-in-Ok : goal.returns-in-Ok
+returns-in-Ok g c =
+    writes true (length-replicate {A = ℕ} 4096 0) (length-replicate {A = ℕ} 49152 0) c.judge-judged.ensures c.outcome.ensures
+    (λ _. c.in-Ok.ensures)
 
-pub returns : goal.returns
-returns g c =
-    comes c.say_all-said.result c.event_room-events.ensures c.result_room-results.ensures c.judge-judged.ensures
-    (c.told.ensures ∙ ap (unless_broken c.say_all-said.result) c.outcome.ensures)
+pub returns-in-Err : goal.returns-in-Err
+returns-in-Err g c =
+    writes false (length-replicate {A = ℕ} 4096 0) (length-replicate {A = ℕ} 49152 0) c.judge-judged.ensures refl (λ e. absurd (false≢true e))

@@ -1,6 +1,10 @@
 -- `mend` meets its contract. Assumes nothing.
-use mathlib.Core.Path.{sym, ◌∙◌}
+use mathlib.Core.Path.{sym, ap, ◌∙◌}
+use Prim.Native.Nat.{◌<◌}
+use native.Mathlib.Omega.{arith}
 use borrow.Author.Tests.{lt-leb}
+use Rattle.writer.specs.Layout.{spelling}
+use Rattle.writer.proofs.Blocks.{spelt_so}
 use Rattle.remake.specs.Mending.{broken, short}
 use Rattle.remake.proofs.Mending.{mended_by}
 use Rattle.remake.proofs.mend.Goals as goal
@@ -14,5 +18,7 @@ returns-then-out-n c =
 
 pub returns : goal.returns
 returns c =
-    mended_by _ _ _ _ _ (sym c.whole.ensures ∙ c.if-not-whole.false) c.if-out-n.false c.check_of-check.ensures
-    c.put_bytes.ensures c.put_bytes-2.ensures
+    let n = c.check-check.result in
+    let small : n < 65536 = omega arith in
+    mended_by _ _ _ _ (sym c.whole.ensures ∙ c.if-not-whole.false) c.if-out-n.false c.copy_from_slice.ensures.after
+    (c.copy_from_slice-2.ensures.after ∙ c.to_le_bytes.ensures ∙ spelt_so n small ∙ ap spelling c.check-check.ensures)

@@ -9,4 +9,4 @@ returns-then-rows-lt-LENGTH c = doors.short (lt-leb _ _ c.if-rows-lt-LENGTH.true
 
 pub returns : goal.returns
 returns c =
-    gives_by (le-leb _ _ c.if-rows-lt-LENGTH.false) c.rows.ensures c.put_bytes.ensures
+    gives_by (le-leb _ _ c.if-rows-lt-LENGTH.false) c.rows.ensures c.put.ensures

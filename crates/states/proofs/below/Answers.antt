@@ -1,12 +1,11 @@
 -- `states::below` meets its contract. Assumes nothing.
-use Rattle.states.proofs.Answers.{said}
+use Rattle.std.proofs.Common.{arith}
 use Rattle.states.proofs.Member.{in_lt}
 use Rattle.states.proofs.Ends.{below_by}
-use native.Mathlib.Omega.{arith}
 use Rattle.states.proofs.below.Goals as goal
 
 pub returns-then-n-ge-STATES : goal.returns-then-n-ge-STATES
-returns-then-n-ge-STATES c = said (λ s i. omega (arith, in_lt 64 s c.args.x (omega arith) i))
+returns-then-n-ge-STATES c = record { yes = λ e s i. omega (arith, in_lt 64 s c.args.x (omega arith) i); no = λ e h. absurd (grind arith) }
 
-pub returns : goal.returns
-returns c = below_by c.args.x c.args.n
+pub returns-else-n-ge-STATES : goal.returns-else-n-ge-STATES
+returns-else-n-ge-STATES c = below_by c.args.x c.args.n

@@ -1,12 +1,7 @@
 -- `rillmoth_write` meets its contract. Assumes nothing.
-use borrow.Author.Tests.{lt-leb, le-leb}
-use Rattle.writerdoors.specs.Results as doors
-use Rattle.writerdoors.proofs.Answers.{writes_meant}
+use borrow.Author.Rules.{rules}
+use Rattle.writerdoors.proofs.Answers.{made_by}
 use Rattle.writerdoors.proofs.rillmoth_write.Goals as goal
 
-pub returns-then-told-lt-WRITE : goal.returns-then-told-lt-WRITE
-returns-then-told-lt-WRITE c = doors.short (lt-leb _ _ c.if-told-lt-WRITE.true)
-
 pub returns : goal.returns
-returns c =
-    writes_meant c.write-writing.result (le-leb _ _ c.if-told-lt-WRITE.false) c.meant.ensures c.write-writing.ensures c.of_write.ensures c.put_words.ensures
+returns c = made_by (λ w d r. search rules) c.answered.ensures

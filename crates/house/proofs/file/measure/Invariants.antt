@@ -1,12 +1,8 @@
-use mathlib.Core.Path.{◌≡◌}
-use Prim.Native.Nat.{◌*◌, ◌-◌, ◌≤◌}
-use lib.ListN.{length}
-use Rattle.block.specs.Limits.{room}
-use Rattle.house.specs.File.{blocks, joined}
+use Rattle.std.proofs.Common.{◌≡◌, ℕ, length}
+use Rattle.block.specs.Block.{kind_number}
+use Rattle.house.specs.File.{joined}
+use Rattle.house.proofs.Files.{Walked}
 use Rattle.house.proofs.file.measure.Given as goal
 
-abbrev pub invariant-loop-k : goal.invariant-loop-k
-invariant-loop-k l = (l.k ≤ blocks l.file) × (l.sum ≤ room * l.k) × (l.sum ≡ length (joined l.q l.file l.k))
-
-abbrev pub decreases-loop-k : goal.decreases-loop-k
-decreases-loop-k l = blocks l.file - l.k
+abbrev pub invariant-loop-b : goal.invariant-loop-b
+invariant-loop-b l = (k : ℕ) × Walked l.file l.b-iterator.rest.now l.b-iterator.size k × (l.sum ≡ length (joined (kind_number l.q) l.file k))

@@ -1,12 +1,12 @@
-use mathlib.Core.Path.{◌≡◌}
-use Prim.Native.Nat.{◌-◌, ◌≤◌}
-use Rattle.house.specs.File.{blocks}
+use Rattle.std.proofs.Common.{◌≡◌}
+use Rattle.std.specs.Prelude.{Ok}
+use Rattle.house.specs.File.{block_before}
 use Rattle.house.specs.Reading.{blocks_test}
-use Rattle.house.specs.declared.answer.Verdict.TheVariants.{Passed}
+use Rattle.house.proofs.Files.{Walked}
 use Rattle.house.proofs.file.test.Given as goal
 
 abbrev pub invariant-loop-k : goal.invariant-loop-k
-invariant-loop-k l = (l.k ≤ blocks l.file) × (blocks_test l.file l.k ≡ Passed)
-
-abbrev pub decreases-loop-k : goal.decreases-loop-k
-decreases-loop-k l = blocks l.file - l.k
+invariant-loop-k l =
+    Walked l.file l.k-iterator.iter.rest.now l.k-iterator.iter.size l.k-iterator.count
+    × (blocks_test l.file l.k-iterator.count ≡ Ok tt)
+    × (l.before ≡ block_before l.file l.k-iterator.count)

@@ -10,5 +10,5 @@ returns-in-Rows c = sym (ap (λ (x : Source). rows_meant x (take c.args.n c.args
 
 pub returns-in-Standard : goal.returns-in-Standard
 returns-in-Standard c =
-    settled c.args.rows.now c.rows-all.result _ c.requires c.rows-all.ensures c.put_bytes.ensures
+    settled c.args.rows.now c.rows.result _ c.requires c.rows.ensures c.put.ensures
     ∙ sym (ap (λ (x : Source). rows_meant x (take c.args.n c.args.rows.now)) c.in-Standard.is)

@@ -1,5 +1,5 @@
 use mathlib.Core.Path.{◌≡◌}
-use Prim.Native.Nat.{◌-◌, ◌*◌, ◌≤◌}
+use Prim.Native.Nat.{◌*◌, ◌≤◌}
 use lib.ListN.{length}
 use Rattle.lent.specs.Lent.{front}
 use Rattle.lines.specs.Texts.{most_text}
@@ -7,8 +7,11 @@ use Rattle.lister.specs.Listing.{joined, piece_of}
 use Rattle.lister.proofs.whole.put_all.Given as goal
 
 abbrev pub invariant-loop-k : goal.invariant-loop-k
-invariant-loop-k l = (l.k ≤ l.n) × (l.at ≡ length (joined (piece_of l.judged l.length l.events l.results) l.k))
-    × (l.out ≡ front l.initial.out (joined (piece_of l.judged l.length l.events l.results) l.k)) × (length l.out ≡ length l.initial.out) × (l.at ≤ most_text * l.k)
-
-abbrev pub decreases-loop-k : goal.decreases-loop-k
-decreases-loop-k l = l.n - l.k
+invariant-loop-k l =
+    let text = piece_of l.listing.judged l.listing.length l.listing.events.now l.listing.results.now in
+    record {
+      bytes : l.at ≡ length (joined text l.k);
+      memory : l.out ≡ front l.initial.out (joined text l.k);
+      same_length : length l.out ≡ length l.initial.out;
+      short : l.at ≤ most_text * l.k;
+    }

@@ -1,4 +1,4 @@
-use Rattle.session.proofs.Laws.{finds_unless_empty}
+use Rattle.monitor.proofs.Feeding.{flag_after}
 use mathlib.Core.Path.{refl}
 use borrow.Author.Rules.{rules}
 use Rattle.monitor.proofs.feed.moved_on.Goals as goal
@@ -16,5 +16,5 @@ returns c =
       bytes = refl;
       events = refl;
       inputs_seen = refl;
-      flag = c.flagged-s.ensures _ (finds_unless_empty _ _ (search rules) c.empty-found.ensures);
+      flag = flag_after _ _ _ _ _ _ (search rules) c.empty-empty.ensures c.then_some.ensures c.or-s.ensures;
     }

@@ -1,20 +1,23 @@
 use lib.ListN.{length}
-use Rattle.monitor.proofs.Words.{join_first, join_later, joined_to}
-use Rattle.states.proofs.Words.{filled_more}
 use mathlib.Core.Path.{◌≡◌}
+use Rattle.monitor.proofs.Words.{joining_first, joining_more, joined_to, handed, none_handed}
 use native.Mathlib.Omega.{arith}
 use borrow.Author.Rules.{rules}
 use Rattle.monitor.proofs.sweep.joined.Goals as goal
+use Rattle.monitor.proofs.sweep.joined.Goals.{then-r-c, else-r-c}
 
 pub loop-r-init : goal.loop-r-init
 loop-r-init c =
     let len : length c.args.row ≡ 8 = search rules in
-    (omega arith, join_first _ _ _ _ len)
+    joining_first _ _ _ _ len
 
 pub loop-r-preserved : goal.loop-r-preserved
-loop-r-preserved c = (omega arith, filled_more _ _ (omega arith) c.loop-r.invariant.1 (join_later _ _ _ _ _ _ (omega arith) c.handed.ensures))
+loop-r-preserved c =
+    joining_more _ _ _ _ _ _ _ (omega arith) (omega arith) c.loop-r.invariant
+    (elim c.if-r-c.branch [
+      | then-r-c w ↦ λ s. rw w.x-is (handed _ _ _ w.if-r-c.true s)
+      | else-r-c w ↦ λ s. rw w.x-is (none_handed _ _ _ w.if-r-c.false s)
+    ])
 
 pub returns : goal.returns
-returns c =
-    let e : c.loop-r.r ≡ 8 = omega (arith, c.loop-r.invariant.1.few) in
-    joined_to _ _ _ _ _ (rw e at c.loop-r.invariant.1)
+returns c = joined_to _ _ _ _ _ _ c.loop-r-test.false c.loop-r.invariant

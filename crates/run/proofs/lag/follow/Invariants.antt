@@ -1,11 +1,12 @@
-use Rattle.run.specs.Lag.{FollowedFrom}
-use Prim.Native.Nat.{◌≤◌}
+use Rattle.states.specs.In.{In}
+use Rattle.states.specs.Rows.{Image}
+use mathlib.Core.Logic.{◌↔◌}
 use mathlib.Core.Path.{◌≡◌}
-use lib.ListN.{length}
+use Prim.Native.Nat.{ℕ, ◌<◌, ◌≤◌}
+use lib.ListN.{get_or}
 use Rattle.run.proofs.lag.follow.Given as goal
 
-abbrev pub invariant-loop-j : goal.invariant-loop-j
-invariant-loop-j l = (l.j ≤ l.m) × (length l.initial.words ≡ 104) × FollowedFrom l.rows l.width l.column l.base l.m l.j l.initial.words l.words
-
-abbrev pub decreases-loop-j : goal.decreases-loop-j
-decreases-loop-j l = l.j
+abbrev pub invariant-loop-word : goal.invariant-loop-word
+invariant-loop-word l =
+    ((j t : ℕ) → j < l.word-index → In t (get_or l.words j 0) ↔ Image l.columns.rows.now l.columns.width l.column (get_or l.initial.words j 0) t)
+    × ((j : ℕ) → l.word-index ≤ j → get_or l.words j 0 ≡ get_or l.initial.words j 0)

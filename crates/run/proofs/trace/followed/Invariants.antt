@@ -1,10 +1,6 @@
-use Prim.Native.Nat.{◌-◌}
-use lib.ListN.{length}
+use Prim.Native.Nat.{◌+◌}
 use Rattle.run.proofs.Running.{Following}
 use Rattle.run.proofs.trace.followed.Given as goal
 
-abbrev pub invariant-loop-past : goal.invariant-loop-past
-invariant-loop-past l = Following l.rows l.inputs l.outputs l.most l.c l.trace l.initial.out l.words l.line l.at l.k l.out l.past
-
-abbrev pub decreases-loop-past : goal.decreases-loop-past
-decreases-loop-past l = length l.trace - l.k
+abbrev pub invariant-loop-k : goal.invariant-loop-k
+invariant-loop-k l = Following l.rules.rows.now l.rules.inputs l.rules.outputs l.rules.waiting l.rules.losses l.trace l.initial.out l.window l.k l.out (l.most + 1)

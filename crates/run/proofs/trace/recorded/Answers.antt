@@ -1,17 +1,17 @@
+use Rattle.run.proofs.Lags.{small_lags, past_lags}
 use Rattle.run.proofs.Lines.{is_line}
 use native.Mathlib.Omega.{arith}
 use Rattle.run.proofs.trace.recorded.Goals as goal
 
-pub line-requires : goal.line-requires
-line-requires c = let t = c.tally_of-t.ensures in (omega arith, omega (arith, t.least.most), omega (arith, t.past.most))
+pub line-bytes-requires : goal.line-bytes-requires
+line-bytes-requires c = (c.args.prepared.now.bounded.1, small_lags _ _ _ _ (omega arith) c.tally-t.ensures.lags)
 
 pub returns : goal.returns
 returns c =
-    let p = c.requires in
-    let t = c.tally_of-t.ensures in
+    let t = c.tally-t.ensures in
     record {
       line = _;
       put = c.put.ensures;
-      of_set = rw c.line.ensures (is_line _ _ _ _ p.2 _ t);
-      lags = t.past;
+      of_set = rw c.line-bytes.ensures (is_line _ _ _ _ c.args.prepared.now.bounded.1 _ t);
+      past = past_lags _ _ _ _ t.lags;
     }

@@ -1,36 +1,30 @@
-use mathlib.Core.Path.{sym, ◌∙◌}
+use Rattle.std.specs.Prelude.{Option, Some}
+use Rattle.table.specs.declared.answer.Symbol.{Symbol}
+use mathlib.Core.Path.{◌≡◌, sym, ap, ◌∙◌}
 use Rattle.run.specs.Trace.{came, went}
 use Rattle.table.proofs.Laws.{given_means}
 use native.Mathlib.Omega.{arith}
 use Rattle.run.proofs.trace.step.Goals as goal
 
-pub arrived-base-requires : goal.arrived-base-requires
-arrived-base-requires c =
-    let p = c.requires in
-    let l = ((given_means _ _ _ _).0 (sym c.event-symbol.ensures ∙ c.in-Input.is)).1 in
-    (p.base_bound.0, p.base_bound.3, p.base_bound.6, p.base_bound.7, omega (arith, l), omega arith, p.ready)
+-- the symbol that was found
+known : {r e : Option Symbol} {x y : Symbol} → r ≡ e → r ≡ Some x → x ≡ y → e ≡ Some y
+known p q d = sym p ∙ q ∙ ap (λ (z : Symbol). Some z) d
 
-pub overflow_add-inputs-in-Output-2 : goal.overflow_add-inputs-in-Output-2
-overflow_add-inputs-in-Output-2 c = omega (arith, ((given_means _ _ _ _).1 (sym c.event-symbol.ensures ∙ c.in-Output.is)).1)
+pub arrived-requires : goal.arrived-requires
+arrived-requires c = ((given_means _ _ _ _).0 (known c.event.ensures c.in-Some-Input.is c.in-Some-Input.field-0-is)).1
 
-pub sent-requires : goal.sent-requires
-sent-requires c =
-    let p = c.requires in
-    let l = ((given_means _ _ _ _).1 (sym c.event-symbol.ensures ∙ c.in-Output.is)).1 in
-    record {
-      base_bound = (p.base_bound.0, omega arith, p.base_bound.3, p.base_bound.6, omega (arith, l), omega arith, p.ready);
-      by_index = λ w k. let m = p.by_index w k in omega arith;
-      past_lags = p.past_lags;
-    }
+pub overflow_add-prepared : goal.overflow_add-prepared
+overflow_add-prepared c = omega (arith, ((given_means _ _ _ _).1 (known c.event.ensures c.in-Some-Output.is c.in-Some-Output.field-0-is)).1)
 
-pub returns-in-Input : goal.returns-in-Input
-returns-in-Input c = came (sym c.event-symbol.ensures ∙ c.in-Input.is) c.grown.ensures c.arrived-base.ensures
+pub sent-requires-clause-column : goal.sent-requires-clause-column
+sent-requires-clause-column c = omega (arith, ((given_means _ _ _ _).1 (known c.event.ensures c.in-Some-Output.is c.in-Some-Output.field-0-is)).1)
 
-pub returns-in-Output : goal.returns-in-Output
-returns-in-Output c =
-    let w = c.sent.ensures in
-    let p = c.requires in
-    went (sym c.event-symbol.ensures ∙ c.in-Output.is) (w.drawn.size ∙ w.followed.size ∙ p.base_bound.6) w
+pub returns-in-Some-Input : goal.returns-in-Some-Input
+returns-in-Some-Input c =
+    let wide = c.args.prepared.now.wide in
+    came (known c.event.ensures c.in-Some-Input.is c.in-Some-Input.field-0-is) c.arrived.ensures.count (rw wide at c.arrived.ensures.came)
 
-pub returns-in-Invalid : goal.returns-in-Invalid
-returns-in-Invalid c = absurd (c.requires.fact (sym c.event-symbol.ensures ∙ c.in-Invalid.is))
+pub returns-in-Some-Output : goal.returns-in-Some-Output
+returns-in-Some-Output c =
+    let wide = c.args.prepared.now.wide in
+    went (known c.event.ensures c.in-Some-Output.is c.in-Some-Output.field-0-is) c.sent.ensures.line (rw wide at c.sent.ensures.words)

@@ -1,13 +1,10 @@
+use Rattle.session.proofs.Passes.{most_decides}
+use Rattle.std.specs.List.{fold}
+use Prim.Native.Nat.{◌+◌, ◌%◌, max}
 use mathlib.Core.Path.{◌≡◌}
-use Rattle.session.proofs.Passes.{needed_none, needed_more, needed_all}
+use Rattle.std.proofs.Common.{rules}
 use native.Mathlib.Omega.{arith}
 use Rattle.session.proofs.sound.lead_below.Goals as goal
 
-pub loop-k-init : goal.loop-k-init
-loop-k-init c = (omega arith, needed_none c.args.entries.now)
-
-pub loop-k-preserved : goal.loop-k-preserved
-loop-k-preserved c = (omega arith, needed_more _ _ _ _ c.args.entries.now c.loop-k.invariant.1 c.after.ensures c.greater-most.ensures)
-
 pub returns : goal.returns
-returns c = let e : c.loop-k.k ≡ c.args.n = omega arith in needed_all _ _ _ c.args.entries.now (rw e at c.loop-k.invariant.1)
+returns c = let e : c.fold.result ≡ fold (λ a x. max a ((x + 1) % 256)) 0 c.args.entries.now = search rules in rw e (most_decides c.args.states c.args.entries.now (λ k. omega (arith, c.type_inv.entries k)))

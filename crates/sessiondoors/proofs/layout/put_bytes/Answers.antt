@@ -7,7 +7,7 @@ use Rattle.sessiondoors.proofs.layout.put_bytes.Goals as goal
 
 pub returns : goal.returns
 returns c =
-    let s = c.args.s in
+    let s = c.args.s.now in
     let n : length s.rows ≡ 2048 = search rules in
     let m : length s.held ≡ 32 = search rules in
-    bytes_put c.args.bytes.now _ _ _ s c.requires n m c.put_bytes.ensures c.put_bytes-2.ensures c.put_bytes-3.ensures
+    bytes_put c.args.bytes.now _ _ _ s c.requires n m c.put.ensures c.put-2.ensures c.put-3.ensures

@@ -6,6 +6,6 @@ use Rattle.sessiondoors.proofs.layout.session_in.Goals as goal
 pub returns : goal.returns
 unfolding session_in
 returns c = record {
-  value = rw (c.set_in-set.ensures, c.rows_in-rows.ensures, c.held_in-held.ensures, c.flag_in-flag.ensures.value, held_part);
+  value = rw (c.first-set.ensures, c.first-rows.ensures, c.first-held.ensures, c.flag_in-flag.ensures.value, held_part);
   flag_bound = c.flag_in-flag.ensures.result_bound;
 }

@@ -1,7 +1,0 @@
--- `bytes::byte` meets its contract. Assumes nothing.
-use mathlib.Core.Path.{sym}
-use lib.ListN.{get_or-eq_default}
-use Rattle.block.proofs.bytes.byte.Goals as goal
-
-pub returns-else-i-b : goal.returns-else-i-b
-returns-else-i-b c = sym (get_or-eq_default c.args.b.now 0 c.if-i-b.false)

@@ -1,7 +1,0 @@
--- `bytes::byte` meets its contract. Assumes nothing.
-use mathlib.Core.Path.{sym}
-use lib.ListN.{get_or-eq_default}
-use Rattle.capture.proofs.bytes.byte.Goals as goal
-
-pub returns-else-i-s : goal.returns-else-i-s
-returns-else-i-s c = sym (get_or-eq_default c.args.s.now 0 c.if-i-s.false)

@@ -1,5 +1,0 @@
--- `bytes::two_at` meets its contract. Assumes nothing.
-use Rattle.capture.proofs.bytes.two_at.Goals as goal
-
-pub returns : goal.returns
-returns c = cc

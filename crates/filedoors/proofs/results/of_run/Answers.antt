@@ -1,6 +1,0 @@
--- `results::of_run` meets its contract. Assumes nothing.
-use native.Mathlib.Nat.{mod-eq_of_lt}
-use Rattle.filedoors.proofs.results.of_run.Goals as goal
-
-pub returns : goal.returns
-returns c = rw (c.told-t.ensures, c.flag_word-f.ensures, mod-eq_of_lt c.requires)

@@ -1,8 +1,0 @@
--- `answer::then` meets its contract, arm by arm. Assumes nothing.
-use Rattle.house.proofs.answer.then.Goals as goal
-
-pub returns-in-Passed : goal.returns-in-Passed
-returns-in-Passed c = rw c.in-Passed.is
-
-pub returns-in-Refused : goal.returns-in-Refused
-returns-in-Refused c = rw c.in-Refused.is

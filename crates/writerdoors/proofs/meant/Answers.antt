@@ -1,9 +1,0 @@
--- `meant` meets its contract. Assumes nothing.
-use borrow.Author.Tests.{eq-eqb, ne_eqb}
-use Rattle.writerdoors.proofs.meant.Goals as goal
-
-pub returns-then-number-eq0 : goal.returns-then-number-eq0
-returns-then-number-eq0 c = rw (eq-eqb _ _ c.if-number-eq0.true)
-
-pub returns-else-number-eq0 : goal.returns-else-number-eq0
-returns-else-number-eq0 c = rw (ne_eqb _ _ c.if-number-eq0.false)

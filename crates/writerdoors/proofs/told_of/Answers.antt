@@ -1,5 +1,0 @@
--- `told_of` meets its contract. Assumes nothing.
-use Rattle.writerdoors.proofs.told_of.Goals as goal
-
-pub returns-in-Refused : goal.returns-in-Refused
-returns-in-Refused c = rw (c.tell.ensures, c.in-Refused.is)
