@@ -1,9 +1,9 @@
 // The bytes of a block: its fields, and what it holds.
 ghost use Rattle.std.specs.Prelude.{◌≡◌, ◌+◌, ◌-◌, ◌<◌, ◌≤◌, take, drop, get_or};
 ghost use Rattle.block.specs.Limits.{check_at};
-ghost use Rattle.block.specs.Block.{two, kind, kind_number, number, used, payload, share, stored};
+ghost use Rattle.block.specs.Block.{two, kind, number, used, payload, share, stored};
 
-use super::{Kind, PAYLOAD_AT};
+use super::PAYLOAD_AT;
 
 pub const CHECK_AT: usize = 510;
 
@@ -64,13 +64,9 @@ fn payload(b: &[u8]) -> &[u8]
     between(b, PAYLOAD_AT, PAYLOAD_AT + used(b).min(ROOM))
 }
 
-// What block b gives to the payload of kind q.
-pub fn share(b: &[u8], q: Kind) -> &[u8]
-    ensures { result.now ≡ share (kind_number q) b.now }
+// What block b gives to the payload of kind q: any number, since a block may have any.
+pub fn share(b: &[u8], q: u8) -> &[u8]
+    ensures { result.now ≡ share q b.now }
 {
-    if kind(b) == u8::from(q) {
-        payload(b)
-    } else {
-        &[]
-    }
+    if kind(b) == q { payload(b) } else { &[] }
 }

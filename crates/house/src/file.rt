@@ -1,7 +1,7 @@
 // A house file block by block: the tests of its blocks, and what they hold.
 ghost use Rattle.std.specs.Prelude.{◌≡◌, length};
 ghost use Rattle.lent.specs.Lent.{put};
-ghost use Rattle.block.specs.Block.{kind_number};
+ghost use Rattle.block.specs.Block.{kind_number, share};
 ghost use Rattle.house.specs.File.{blocks, joined, events_of};
 ghost use Rattle.house.specs.Reading.{is_whole, blocks_test, form_test, place_or, valid_events};
 
@@ -44,13 +44,20 @@ pub(crate) fn form(file: &[u8]) -> Result<(), Refusal>
     test(file)
 }
 
+// What a block gives to the payload of this kind.
+fn share(b: &[u8], q: Kind) -> &[u8]
+    ensures { result.now ≡ share (kind_number q) b.now }
+{
+    block::share(b, u8::from(q))
+}
+
 // How many bytes the blocks of kind q hold.
 pub(crate) fn measure(file: &[u8], q: Kind) -> usize
     ensures { result ≡ length (joined (kind_number q) file.now (blocks file.now)) }
 {
     let mut sum = 0;
     for b in file.chunks_exact(BLOCK) {
-        sum += block::share(b, q).len();
+        sum += share(b, q).len();
     }
     sum
 }
@@ -64,7 +71,7 @@ pub(crate) fn gather(file: &[u8], q: Kind, dst: &mut [u8])
     }
     let mut at = 0;
     for b in file.chunks_exact(BLOCK) {
-        let part = block::share(b, q);
+        let part = share(b, q);
         lent::put(part, dst, at);
         at += part.len();
     }
@@ -94,7 +101,7 @@ pub(crate) fn valid_events(file: &[u8], inputs: u8, outputs: u8) -> usize
 {
     let mut at = 0;
     for b in file.chunks_exact(BLOCK) {
-        let part = block::share(b, Kind::Events);
+        let part = share(b, Kind::Events);
         let good = valid(part, inputs, outputs);
         if good < part.len() {
             return at + good;
