@@ -17,14 +17,14 @@ using namespace monitors;
 
 extern "C" {
 void inner_session_in(void *session, const uint64_t *words, size_t words_count, const uint8_t *bytes, size_t bytes_count);
-void inner_advance(void *test, void *session, uint8_t event);
-void inner_run(void *ran, const uint8_t *rows, size_t rows_count, size_t states, size_t inputs, size_t outputs, size_t waiting, size_t losses,
-               const uint8_t *trace, size_t trace_count, uint8_t *out, size_t out_count);
+void inner_feed(void *test, void *session, uint8_t event);
 
+// A box's rules, as the library has them and as the Rust door is handed them.
 struct door_box {
     const uint8_t *rows;
     size_t rows_count, states, inputs, outputs, waiting, losses;
 };
+void inner_run(void *ran, const door_box *rules, const uint8_t *trace, size_t trace_count, uint8_t *out, size_t out_count);
 bool door_feeds(const door_box *box, const uint8_t *trace, size_t count, uint64_t *words);
 bool door_runs(const door_box *box, const uint8_t *trace, size_t count, uint8_t *out, size_t room, size_t times);
 }
@@ -70,7 +70,7 @@ void feeds_within(const workload &w, size_t events, uint64_t *set) {
     memory m = opened(w);
     alignas(16) static uint8_t session[session_size], test[test_size];
     inner_session_in(session, m.words, session_words, m.bytes, session_bytes);
-    for (size_t k = 0; k < events; ++k) inner_advance(test, session, w.trace[k]);
+    for (size_t k = 0; k < events; ++k) inner_feed(test, session, w.trace[k]);
     // The set stands somewhere in a session: where is found by the one that was fed through the door (see `agree`).
     std::memcpy(set, session, session_size);
 }
@@ -98,9 +98,8 @@ using run_loop = void(const workload &w, size_t events, std::vector<uint8_t> &ou
 
 void runs_within(const workload &w, size_t events, std::vector<uint8_t> &out, size_t times) {
     alignas(16) uint8_t ran[256];
-    for (size_t k = 0; k < times; ++k)
-        inner_run(ran, w.box.rows.data(), w.box.rows.size(), w.box.states, w.box.inputs, w.box.outputs, w.limits.waiting, w.limits.losses,
-                  w.trace.data(), events, out.data(), out.size());
+    door_box box = box_of(w);
+    for (size_t k = 0; k < times; ++k) inner_run(ran, &box, w.trace.data(), events, out.data(), out.size());
 }
 
 void runs_through_c(const workload &w, size_t events, std::vector<uint8_t> &out, size_t times) {
