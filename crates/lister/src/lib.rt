@@ -97,10 +97,10 @@ fn list_file<W: Write>(output: &mut W, file: &[u8], length: usize) -> Outcome
 pub fn list_from<R: Read, W: Write>(input: &mut R, output: &mut W) -> Outcome {
     let mut file = intake::file_room();
     let came = intake::keep_from(input, &mut file);
-    match came.length {
-        Ok(length) => list_file(output, lent::front(&file, came.kept), length),
-        Err(_) => Outcome::Broken,
-    }
+    let Ok(length) = came.length else {
+        return Outcome::Broken;
+    };
+    list_file(output, lent::front(&file, came.kept), length)
 }
 
 // The same from one descriptor to another.
