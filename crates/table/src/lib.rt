@@ -65,14 +65,16 @@ pub fn entries(rows: &[u8], states: u8, inputs: u8, outputs: u8) -> Result<(), R
     ensures { result ≡ entries_test (table_of rows.now states inputs outputs) }
 {
     let width = u16::from(inputs) + u16::from(outputs);
-    for row in 0..states {
+    let mut found = Ok(());
+    'rows: for row in 0..states {
         for column in 0..width {
             if byte::leads_out(next(rows, inputs, outputs, row, column), states) {
-                return Err(Refusal::Entry(usize::from(row), usize::from(column)));
+                found = Err(Refusal::Entry(usize::from(row), usize::from(column)));
+                break 'rows;
             }
         }
     }
-    Ok(())
+    found
 }
 
 // Numbers 5 and 6, of B and c. Where both are wrong, B is told.

@@ -1,4 +1,4 @@
-use Rattle.std.specs.Prelude.{None}
+use Rattle.std.specs.Prelude.{None, Ok}
 use Rattle.std.proofs.Common.{◌≡◌, List, ℕ, ◌+◌, ◌*◌}
 use Rattle.table.specs.Bytes.{table_of}
 use Rattle.table.specs.First.{first}
@@ -10,7 +10,7 @@ abbrev pub Clean : List ℕ → ℕ → ℕ → ℕ → ℕ → Type 0
 Clean rows s i o n = first (bad (table_of rows s i o)) n ≡ None
 
 abbrev pub invariant-loop-column : goal.invariant-loop-column
-invariant-loop-column l = Clean l.rows l.states l.inputs l.outputs (l.row * (l.inputs + l.outputs) + l.column)
+invariant-loop-column l = (l.found ≡ Ok tt) × Clean l.rows l.states l.inputs l.outputs (l.row * (l.inputs + l.outputs) + l.column)
 
-abbrev pub invariant-loop-row : goal.invariant-loop-row
-invariant-loop-row l = Clean l.rows l.states l.inputs l.outputs (l.row * (l.inputs + l.outputs))
+abbrev pub invariant-rows : goal.invariant-rows
+invariant-rows l = (l.found ≡ Ok tt) × Clean l.rows l.states l.inputs l.outputs (l.row * (l.inputs + l.outputs))
