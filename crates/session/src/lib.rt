@@ -2,7 +2,7 @@
 #![tactic(auto)]
 
 ghost use Rattle.std.specs.Prelude.{◌≡◌, Ok};
-ghost use Rattle.session.specs.Open.{zero_session, begun, opening, opened};
+ghost use Rattle.session.specs.Open.{zero_session, padded, begun, opening, opened};
 
 use table::{Refusal, Rules};
 
@@ -43,6 +43,17 @@ pub struct Opened {
     pub session: Session,
 }
 
+// The rows, with zeros after them; what does not fit is left out.
+fn copied(rows: &[u8]) -> [u8; 2048]
+    ensures { result ≡ padded 2048 rows.now }
+{
+    let mut copied = [0u8; 2048];
+    for i in 0..rows.len().min(2048) {
+        copied[i] = rows[i];
+    }
+    copied
+}
+
 impl Session {
     // A session of zeros only.
     #[tactic(auto, unfolding(crate::specs::Open::zero_session, crate::specs::Open::zeros))]
@@ -64,21 +75,29 @@ impl Session {
         }
     }
 
-    // Begins a session of zeros, by rules that pass the tests of an opening: with their table and bounds, and the one configuration (0,0,0).
-    #[tactic(auto, using(crate::proofs::Openings::small_opening), unfolding(crate::specs::Open::begun, crate::specs::Open::zero_session, crate::specs::Open::zeros))]
-    fn begin(&mut self, rules: &Rules)
+    // A session by rules that pass the tests of an opening: with their table and bounds, and the one configuration (0,0,0). It is made of its
+    // parts at once: one of zeros that is filled afterwards stands whole on the stack, rows and all.
+    #[tactic(auto, using(crate::proofs::Openings::small_opening, crate::proofs::Openings::few_rows), unfolding(crate::specs::Open::begun, crate::specs::Open::zeros))]
+    fn begun(rules: &Rules) -> Session
         requires passed { opening rules.now.rows.now rules.now.states rules.now.inputs rules.now.outputs rules.now.waiting rules.now.losses ≡ Ok tt }
-        requires clear { self.old ≡ zero_session }
-        ensures { self.new ≡ begun rules.now.rows.now rules.now.states rules.now.inputs rules.now.outputs rules.now.waiting rules.now.losses }
+        ensures { result ≡ begun rules.now.rows.now rules.now.states rules.now.inputs rules.now.outputs rules.now.waiting rules.now.losses }
     {
-        self.rows[..rules.rows.len()].copy_from_slice(rules.rows);
-        self.states = rules.states as u8;
-        self.inputs = rules.inputs as u8;
-        self.outputs = rules.outputs as u8;
-        self.waiting = rules.waiting as u8;
-        self.losses = rules.losses as u8;
-        let set = &mut self.set;
+        let rows = copied(rules.rows);
+        let mut set = [0u64; 264];
         set[0] = 1;
+        Session {
+            states: rules.states as u8,
+            inputs: rules.inputs as u8,
+            outputs: rules.outputs as u8,
+            rows,
+            waiting: rules.waiting as u8,
+            losses: rules.losses as u8,
+            set,
+            held: [0u8; 32],
+            events: 0,
+            arrived: 0,
+            flag: None,
+        }
     }
 }
 
@@ -101,10 +120,14 @@ pub fn tested(rules: &Rules) -> Result<(), Refusal>
 pub fn open(rules: &Rules) -> Opened
     ensures { result ≡ opened rules.now.rows.now rules.now.states rules.now.inputs rules.now.outputs rules.now.waiting rules.now.losses }
 {
-    let test = tested(rules);
-    let mut session = Session::zeros();
-    if test.is_ok() {
-        session.begin(rules);
+    match tested(rules) {
+        Ok(()) => Opened {
+            test: Ok(()),
+            session: Session::begun(rules),
+        },
+        Err(r) => Opened {
+            test: Err(r),
+            session: Session::zeros(),
+        },
     }
-    Opened { test, session }
 }

@@ -129,3 +129,10 @@ impl Session {
             && self.flag_fits()
     }
 }
+
+// The same of a session by value.
+pub fn sound(s: Session) -> bool
+    ensures { Decides result (Sound s) }
+{
+    s.is_sound()
+}
