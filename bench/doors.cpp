@@ -17,7 +17,7 @@ using namespace monitors;
 
 extern "C" {
 void inner_session_in(void *session, const uint64_t *words, size_t words_count, const uint8_t *bytes, size_t bytes_count);
-void inner_feed(void *test, void *session, uint8_t event);
+void inner_advance(void *test, void *session, uint8_t event);
 
 // A box's rules, as the library has them and as the Rust door is handed them.
 struct door_box {
@@ -70,7 +70,7 @@ void feeds_within(const workload &w, size_t events, uint64_t *set) {
     memory m = opened(w);
     alignas(16) static uint8_t session[session_size], test[test_size];
     inner_session_in(session, m.words, session_words, m.bytes, session_bytes);
-    for (size_t k = 0; k < events; ++k) inner_feed(test, session, w.trace[k]);
+    for (size_t k = 0; k < events; ++k) inner_advance(test, session, w.trace[k]);
     // The set stands somewhere in a session: where is found by the one that was fed through the door (see `agree`).
     std::memcpy(set, session, session_size);
 }

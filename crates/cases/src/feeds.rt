@@ -31,12 +31,12 @@ pub fn event(rt: &impl Print, s: &mut Session, f: &Figures) -> io::Result<()> {
 
 // What becomes of a session that is fed a byte: it goes on, or is handed back.
 pub fn offered(rt: &impl Print, s: &Session, byte: u8) -> io::Result<()> {
-    let mut next = *s;
-    match feed::feed(&mut next, byte) {
-        Ok(()) => print::session(rt, &next),
+    let fed = feed::feed(*s, byte);
+    match fed.test {
+        Ok(()) => print::session(rt, &fed.session),
         Err(r) => {
             print::refused(rt, r)?;
-            print!(rt; "{}", if next == *s { " unchanged" } else { " CHANGED" })
+            print!(rt; "{}", if fed.session == *s { " unchanged" } else { " CHANGED" })
         }
     }
 }

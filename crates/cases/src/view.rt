@@ -1,7 +1,7 @@
 // What a session carries.
 use crate::figures::Figures;
 use crate::print;
-use session::Session;
+use session::{Session, sound};
 use std::io;
 
 // A session of zeros only, with no flag.
@@ -24,7 +24,7 @@ pub fn view(rt: &impl Print, s: &Session) -> io::Result<()> {
     print::bytes(rt, &[s.states, s.inputs, s.outputs, s.waiting, s.losses])?;
     print::session(rt, s)?;
     print::held(rt, s)?;
-    if s.is_sound() {
+    if sound::sound(*s) {
         print!(rt; " sound")?;
     }
     if *s == ZEROS {

@@ -23,7 +23,7 @@ use Rattle.table.specs.Test.{Test}
 use Rattle.states.specs.In.{In, Has}
 use Rattle.states.proofs.Same.{words_ext}
 use Rattle.session.specs.declared.Session.{Session}
-use Rattle.monitor.specs.Fed as declared
+use Rattle.monitor.specs.declared.feed.Fed as declared
 use Rattle.session.specs.Sets.{Holds}
 use Rattle.session.specs.Session.{table_in, kept, line, FlagFits, Sound, Proper, place_of}
 use Rattle.session.specs.Open.{opening, begun}

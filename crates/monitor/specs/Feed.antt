@@ -10,7 +10,7 @@ use Rattle.table.specs.declared.answer.Refusal.TheVariants as refusal
 use Rattle.session.specs.declared.Session.{Session}
 use Rattle.session.specs.Sets.{Holds}
 use Rattle.session.specs.Session.{table_in, line, Sound}
-use Rattle.monitor.specs.Fed.{Fed}
+use Rattle.monitor.specs.declared.feed.Fed.{Fed}
 
 -- THE HELD INPUTS
 

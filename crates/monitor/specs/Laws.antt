@@ -6,7 +6,7 @@ use Rattle.model.specs.Model.{box, events, inputs_of, Config, cfg, FlagIs}
 use Rattle.model.specs.Demands.{Carries, Slack, Later}
 use Rattle.table.specs.Bytes.{table_of}
 use Rattle.session.specs.declared.Session.{Session}
-use Rattle.monitor.specs.Fed.{Fed}
+use Rattle.monitor.specs.declared.feed.Fed.{Fed}
 use Rattle.session.specs.Sets.{Holds}
 use Rattle.session.specs.Session.{table_in, line, Sound, Proper, place_of}
 use Rattle.session.specs.Open.{opening, begun}

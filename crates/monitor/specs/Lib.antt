@@ -1,4 +1,3 @@
-pub mod Fed
 pub mod Sweep
 pub mod Feed
 pub mod Event

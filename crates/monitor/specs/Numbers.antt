@@ -7,7 +7,7 @@ use Rattle.table.specs.Numbers.{Tells, Alone, Among, IsValid}
 use Rattle.table.specs.Test.{Test}
 use Rattle.session.specs.declared.Session.{Session}
 use Rattle.session.specs.Session.{Sound}
-use Rattle.monitor.specs.Fed.{Fed}
+use Rattle.monitor.specs.declared.feed.Fed.{Fed}
 use Rattle.monitor.specs.Feed.{Feeds}
 
 -- What the test t of a feed tells of the session s and the byte b:

@@ -8,6 +8,13 @@ use crate::sweep::Moves;
 use session::{MOST_EVENTS, Session};
 use table::{Refusal, Symbol};
 
+// How a feed of a session by value ends, and the session: as it was, where it was refused.
+#[derive(Clone, Copy, PartialEq, Eq)]
+pub struct Fed {
+    pub test: Result<(), Refusal>,
+    pub session: Session,
+}
+
 // The session one event later: its set and its held inputs have moved on already; its flag, its count of events and that of inputs follow.
 // A flag stays; where there was none and the set is empty, it falls at this event.
 fn moved_on(s: &mut Session, arrived: usize)
@@ -54,7 +61,7 @@ fn send(s: &mut Session, a: u8)
 // The event byte comes to the session where it lies. Any session may come and any byte; where it is refused, since the session is not sound or
 // is full, or since it has no such event, the session stays as it was.
 #[tactic(auto, using(crate::proofs::Feeding::endings))]
-pub fn feed(s: &mut Session, byte: u8) -> Result<(), Refusal>
+pub fn advance(s: &mut Session, byte: u8) -> Result<(), Refusal>
     ensures { Feeds s.old byte (record { test = result; session = s.new }) }
 {
     if !s.is_sound() {
@@ -72,4 +79,13 @@ pub fn feed(s: &mut Session, byte: u8) -> Result<(), Refusal>
         Symbol::Output(a) => send(s, a),
     }
     Ok(())
+}
+
+// The session after the event byte, by value: a session that is refused is handed back.
+pub fn feed(s: Session, byte: u8) -> Fed
+    ensures { Feeds s byte result }
+{
+    let mut session = s;
+    let test = advance(&mut session, byte);
+    Fed { test, session }
 }

@@ -14,7 +14,7 @@ use Rattle.table.specs.declared.answer.Refusal.{Refusal}
 use Rattle.table.specs.declared.answer.Refusal.TheVariants.{Rows, States, Symbols, Entry, Waiting, Losses, Event, Unsound, Events, Buffer}
 use Rattle.table.specs.Test.{Test}
 use Rattle.session.specs.declared.Opened.{Opened}
-use Rattle.monitor.specs.Fed.{Fed}
+use Rattle.monitor.specs.declared.feed.Fed.{Fed}
 use Rattle.session.specs.Open.{opened}
 use Rattle.monitor.specs.Feed.{Feeds}
 use Rattle.lent.specs.Lent.{front, put_at}

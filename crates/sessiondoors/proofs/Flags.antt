@@ -6,7 +6,7 @@ use native.Mathlib.Omega.{arith}
 use Rattle.model.specs.Limits.{most_events}
 use Rattle.table.specs.Test.{Test}
 use Rattle.session.specs.declared.Session.{Session}
-use Rattle.monitor.specs.Fed.{Fed}
+use Rattle.monitor.specs.declared.feed.Fed.{Fed}
 use Rattle.session.specs.Open.{opening, begun, zero_session, with_session, opened}
 use Rattle.session.specs.Session.{FlagFits, Proper}
 use Rattle.monitor.specs.Feed as feed

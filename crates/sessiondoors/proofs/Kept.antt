@@ -6,7 +6,7 @@ use native.Mathlib.Omega.{arith}
 use lib.ListN.{length, get_or, take, drop, length-append}
 use lib.Seq.{paste, take-length, length-take-le}
 use Rattle.session.specs.declared.Session.{Session}
-use Rattle.monitor.specs.Fed.{Fed}
+use Rattle.monitor.specs.declared.feed.Fed.{Fed}
 use Rattle.monitor.specs.Feed as feed
 use Rattle.monitor.specs.Feed.{Feeds}
 use Rattle.lent.specs.Lent.{front, put_at}

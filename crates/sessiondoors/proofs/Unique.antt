@@ -5,7 +5,7 @@ use mathlib.Core.Bool.{Bool, true, false}
 use Rattle.table.specs.declared.answer.Refusal.{Refusal}
 use Rattle.table.specs.Test.{Test}
 use Rattle.session.specs.declared.Opened.{Opened}
-use Rattle.monitor.specs.Fed.{Fed}
+use Rattle.monitor.specs.declared.feed.Fed.{Fed}
 use Rattle.monitor.proofs.Laws.{one_feed}
 use Rattle.lent.specs.Lent.{front}
 use Rattle.sessiondoors.specs.Layout.{words_of, bytes_of, session_in}

@@ -87,7 +87,7 @@ pub extern "C" fn rillmoth_feed(
         return false;
     }
     let mut s = layout::session_in(words, bytes);
-    let test = feed::feed(&mut s, byte);
+    let test = feed::advance(&mut s, byte);
     layout::put_words(words, &s);
     layout::put_held(bytes, &s.held);
     lent::put(&of_test(test), told, 0);
