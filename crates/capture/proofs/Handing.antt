@@ -1,12 +1,13 @@
 -- What the reader hands out, call by call. Assumes nothing.
 use Rattle.std.specs.Prelude.{Some, None, Ok, Err}
 use mathlib.Core.Path.{◌≡◌, refl, sym, ap, ◌∙◌, subst}
-use mathlib.Core.Bool.{Bool, true, false}
+use mathlib.Core.Bool.{Bool, true, false, cond}
 use mathlib.Core.List.{List, [], ◌∷◌, ◌++◌, append-nil}
 use Prim.Native.Nat.{ℕ, zero, suc, ◌+◌, ◌≤◌, ◌<◌}
 use native.Mathlib.Numerals.{add-one}
 use native.Mathlib.Decide.{dec_lt}
 use native.Mathlib.Omega.{arith}
+use lib.Dec.{ltb}
 use lib.Seq.{append_snoc}
 use borrow.Author.Tests.{lt-ltb, le-ltb, eq-eqb, ne_eqb}
 use lib.ListN.{length}
@@ -117,6 +118,19 @@ pub left_there : LeftThere
 left_there s i t e n =
     let p = stays t i n in
     (p, ap (taken_at s) p ∙ sym e)
+
+-- no event is handed out at or above the limit, so the limit changes nothing of where the reader goes
+pub place_kept : (s : List ℕ) (i : ℕ) → cond (ltb i most_events) (place_after (taken_at s i) i) i ≡ place_after (taken_at s i) i
+place_kept s i = go (taken_at s i) refl
+  where
+    same : (b : Bool) → cond b i i ≡ i
+    same true = refl
+    same false = refl
+
+    go : (t : Taken) → taken_at s i ≡ t → cond (ltb i most_events) (place_after t i) i ≡ place_after t i
+    go (Ok (Some b)) e = simp (lt-ltb i most_events (few s i b e))
+    go (Ok None) e = same (ltb i most_events)
+    go (Err r) e = same (ltb i most_events)
 
 -- CALL AFTER CALL
 

@@ -90,6 +90,7 @@ module _ (p : ℕ → Bool) where
 
   -- what the number says
   pub record Known (n m : ℕ) : Type 0 where
+    pub within : m ≤ n
     pub before : Pass m
     pub at : m < n → p m ≡ false
 
@@ -98,8 +99,8 @@ module _ (p : ℕ → Bool) where
   passing_known n = go (first_failing p n) refl
     where
       go : (f : Option ℕ) → first_failing p n ≡ f → Known n (unwrap_or f n)
-      go None g = record { before = none_failing n g; at = λ l. absurd (omega arith) }
-      go (Some k) g = let (l, f, h) = some_failing n k g in record { before = h; at = λ m. f }
+      go None g = record { within = omega arith; before = none_failing n g; at = λ l. absurd (omega arith) }
+      go (Some k) g = let (l, f, h) = some_failing n k g in record { within = omega (arith, l); before = h; at = λ m. f }
 
   -- all pass exactly when the number is that of all
   pub all_pass : (n : ℕ) → passing p n ≡ n → Pass n

@@ -1,6 +1,7 @@
 // A reader holds a capture's bytes and its place in them, and hands out one event at a time. `taken_at` does the work of each record, on
-// the slice and the number.
-ghost use Rattle.std.specs.Prelude.{◌≡◌};
+// the slice and the number, and `after` moves the place; over the struct there are few functions, and each takes it apart.
+ghost use Rattle.std.specs.Prelude.{◌≡◌, cond, ltb};
+ghost use Rattle.model.specs.Limits.{most_events};
 ghost use Rattle.capture.specs.Reading.{taken_at, place_after, handed_at};
 
 use super::answer::{Handed, Refusal};
@@ -39,6 +40,19 @@ pub(crate) fn taken_at(capture: &[u8], i: usize) -> Result<Option<u8>, Refusal>
     Ok(Some(byte))
 }
 
+// The place after an answer: an event is passed, and nothing else. No event is handed out at or above the limit.
+fn after(taken: Result<Option<u8>, Refusal>, place: usize) -> usize
+    ensures { result ≡ cond (ltb place most_events) (place_after taken place) place }
+{
+    if MOST_EVENTS <= place {
+        return place;
+    }
+    match taken {
+        Ok(Some(_)) => place + 1,
+        Ok(None) | Err(_) => place,
+    }
+}
+
 impl<'a> Reader<'a> {
     // A reader at a place; at place 0 it is at the capture's start.
     pub fn open_at(capture: &'a [u8], place: usize) -> Reader<'a>
@@ -49,16 +63,14 @@ impl<'a> Reader<'a> {
     }
 
     // Hands out one event and moves on. At the end it stays there, and a refusal leaves it where it is.
-    #[tactic(auto, using(crate::proofs::Handing::few))]
+    #[tactic(auto, using(crate::proofs::Handing::place_kept))]
     pub fn take(&mut self) -> Result<Option<u8>, Refusal>
         ensures answer { result ≡ taken_at self.old.capture.now self.old.place }
         ensures capture { self.new.capture ≡ self.old.capture }
         ensures place { self.new.place ≡ place_after (taken_at self.old.capture.now self.old.place) self.old.place }
     {
         let taken = taken_at(self.capture, self.place);
-        if let Ok(Some(_)) = taken {
-            self.place += 1;
-        }
+        self.place = after(taken, self.place);
         taken
     }
 }
