@@ -1,22 +1,36 @@
 // A short text that is built from its parts. What does not fit is left out: no line of a listing is that long.
-ghost use Rattle.std.specs.Prelude.{◌≡◌, [], ◌∷◌, ◌++◌, ◌≤◌, ℕ, List, length, take};
+ghost use Rattle.std.specs.Prelude.{◌≡◌, [], ◌∷◌, ◌≤◌, length};
 ghost use Rattle.lines.specs.Texts.{most_text, Adds, decimal, hexadecimal};
 
 use std::marker::Model;
 
-// The first `used` bytes are the text; the rest is not told.
-#[derive(Drop)]
+// The first `used` bytes are the text, and zeros stand after them.
+#[derive(Clone, Copy)]
 pub struct Text {
     bytes: [u8; 96],
     used: usize,
 }
 
 impl Model for Text {
+    ghost use Rattle.std.specs.Prelude.{◌≡◌, ◌≤◌, ◌-◌, ◌++◌, ℕ, List, length, take, drop, replicate};
+    ghost use Rattle.std.proofs.Common.{◌∙◌, ap, sym, subst, take-append-drop, length-take-le};
+
     ghost Value = { List ℕ };
 
     ghost view = { λ t. take t.used t.bytes };
 
-    ghost invariant = { λ t. t.used ≤ 96 };
+    ghost invariant = { λ t. (t.used ≤ 96) × (length t.bytes ≡ 96) × (drop t.used t.bytes ≡ replicate (96 - t.used) 0) };
+
+    ghost inverse = { λ l. record { bytes = l ++ replicate (96 - length l) 0; used = length l } };
+
+    ghost inverse_ok = { λ t h i.
+        let long : length (take t.used t.bytes) ≡ t.used = length-take-le t.used t.bytes (subst (λ (n : ℕ). t.used ≤ n) (sym h.1) h.0) in
+        record {
+          bytes = (ap (λ (n : ℕ). take t.used t.bytes ++ replicate (96 - n) 0) long
+              ∙ ap (λ (l : List ℕ). take t.used t.bytes ++ l) (sym h.2)
+              ∙ take-append-drop t.used t.bytes) i;
+          used = long i;
+        } };
 }
 
 impl Text {

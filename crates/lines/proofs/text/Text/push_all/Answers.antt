@@ -3,11 +3,23 @@ use mathlib.Core.List.{List, ◌++◌}
 use Prim.Native.Nat.{ℕ}
 use native.Mathlib.Omega.{arith}
 use lib.ListN.{length, take}
+use borrow.Rule.Slice.PartMut.{same_len_mid}
 use Rattle.std.proofs.lemmas.List.{length-take-le}
 use Rattle.std.proofs.lemmas.Slice.{take-put_mid}
 use Rattle.lines.proofs.Building.{filled}
+use Rattle.lines.proofs.Zeros.{zeros_left}
 use Rattle.lines.specs.Texts.{text_of}
 use Rattle.lines.proofs.text.Text.push_all.Goals as goal
+
+-- zeros after the used bytes, as before
+pub invariant_of-self : goal.invariant_of-self
+invariant_of-self c =
+    let used = c.self.inside.used in
+    let put : length c.copy_from_slice.new.self ≡ c.min-n.result = ap length c.copy_from_slice.ensures.after ∙ length-take-le _ _ (omega arith) in (
+      omega arith,
+      same_len_mid used _ c.self.inside.bytes _ c.copy_from_slice.ensures.len ∙ c.self.told,
+      zeros_left used _ _ c.self.inside.bytes _ (omega arith) (omega (arith, c.self.told, c.self.invariant)) put c.self.invariant.2,
+    )
 
 pub returns : goal.returns
 returns c =
