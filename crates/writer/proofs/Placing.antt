@@ -50,7 +50,7 @@ module _ (c : Contents) (rows trace o : List ℕ) where
         }
 
 -- good counts fit a byte
-counts_small : (x : Source) (s i o : ℕ) (rows : List ℕ) → GoodRows x s i o rows → (s < 256) × (i < 256) × (o < 256)
+pub counts_small : (x : Source) (s i o : ℕ) (rows : List ℕ) → GoodRows x s i o rows → (s < 256) × (i < 256) × (o < 256)
 counts_small Rows s i o rows v = (omega (arith, v.states.1), omega (arith, v.inputs.1), omega (arith, v.outputs.1))
 counts_small Standard s i o rows (a, b, c, e) = (omega arith, omega arith, omega arith)
 
