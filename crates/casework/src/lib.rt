@@ -1,7 +1,7 @@
 // What the programs that try files share: they read the files that their arguments name, and tell memory by its digest.
 #![tactic(auto)]
 
-ghost use Rattle.std.specs.Prelude.{◌≡◌};
+ghost use Rattle.std.specs.Prelude.{◌≡◌, ◌≤◌, length, MatchOption, ⊤};
 ghost use Rattle.casework.specs.Digest.{digest_of};
 
 use std::fs;
@@ -28,7 +28,9 @@ pub fn digest(memory: &[u8]) -> u64
 }
 
 // The bytes of the file of this name, in this room; none, where it cannot be opened.
-pub fn read<'a, R: Files>(rt: &R, name: &str, room: &'a mut [u8; FILE_ROOM]) -> Option<&'a [u8]> {
+pub fn read<'a, R: Files>(rt: &R, name: &str, room: &'a mut [u8; FILE_ROOM]) -> Option<&'a [u8]>
+    ensures { MatchOption result ⊤ (λ bytes. length bytes.now ≤ 9000) }
+{
     let mut file = fs::open(rt, name).ok()?;
     let came = intake::keep_from(&mut file, room);
     Some(&room[..came.kept])
