@@ -36,7 +36,14 @@ pub fn offered(rt: &impl Print, s: &Session, byte: u8) -> io::Result<()> {
         Ok(()) => print::session(rt, &fed.session),
         Err(r) => {
             print::refused(rt, r)?;
-            print!(rt; "{}", if fed.session == *s { " unchanged" } else { " CHANGED" })
+            print!(rt;
+                "{}",
+                if fed.session == *s {
+                    " unchanged"
+                } else {
+                    " CHANGED"
+                }
+            )
         }
     }
 }

@@ -36,9 +36,9 @@ copy_full n l h = rw (drop_of_length-le (zeros n) {i = n} (rw length_zeros (le_r
 pub copy_least : (n m : ℕ) (l : List ℕ) → m ≡ min (length l) n → take m l ++ drop m (zeros n) ≡ padded n l
 copy_least n m l e =
     ⊎_elim
-      (λ h. let few : length l ≤ n = omega arith in let all : m ≡ length l = omega arith in rw all (copy_all n l few))
-      (λ h. let all : m ≡ n = omega arith in rw all (copy_full n l h))
-      (lt_or_ge (length l) n)
+    (λ h. let few : length l ≤ n = omega arith in let all : m ≡ length l = omega arith in rw all (copy_all n l few))
+    (λ h. let all : m ≡ n = omega arith in rw all (copy_full n l h))
+    (lt_or_ge (length l) n)
 
 -- what fits stands whole before the zeros
 pub whole : (l : List ℕ) → length l ≤ 2048 → padded 2048 l ≡ l ++ drop (length l) (zeros 2048)

@@ -48,6 +48,7 @@ fn copied(rows: &[u8]) -> [u8; 2048]
     ensures { result ≡ padded 2048 rows.now }
 {
     let mut copied = [0u8; 2048];
+    // By number: of a part of a local array the check does not know the length that `copy_from_slice` asks for.
     for i in 0..rows.len().min(2048) {
         copied[i] = rows[i];
     }
