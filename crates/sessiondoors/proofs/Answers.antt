@@ -6,7 +6,7 @@ use mathlib.Core.Bool.{true, false, ◌&&◌, and-eq-true_iff}
 use mathlib.Core.List.{List}
 use Prim.Native.Nat.{ℕ, ◌≤◌}
 use lib.Dec.{leb}
-use lib.ListN.{length}
+use lib.ListN.{length, get_or}
 use native.Mathlib.Omega.{arith}
 use borrow.Author.Tests.{leb-true}
 use Rattle.table.specs.Refusals.{told}
@@ -48,6 +48,15 @@ refuses (Event _) e = omega arith
 refuses Unsound e = omega arith
 refuses (Events _) e = omega arith
 refuses (Buffer _) e = omega arith
+
+-- what is told with 0 passed, and what is not is refused
+pub told_passed : (t : Test) {v : List ℕ} → v ≡ test_results t → get_or v 0 0 ≡ 0 → is_err t ≡ false
+told_passed (Ok _) e n = refl
+told_passed (Err r) e n = absurd (refuses r (rw e at n))
+
+pub told_refused : (t : Test) {v : List ℕ} → v ≡ test_results t → (get_or v 0 0 ≡ 0 → ⊥) → is_err t ≡ true
+told_refused (Ok _) e n = absurd (n (rw e))
+told_refused (Err r) e n = refl
 
 pub opens_by : {rows : List ℕ} {s i o B c : ℕ} {w b t w' b' v t' : List ℕ} (r : Opened) → roomy w b t ≡ true → r ≡ opened rows s i o B c
     → is_err r.test ≡ false → w' ≡ front w (words_of r.session) → b' ≡ front b (bytes_of r.session) → v ≡ test_results r.test

@@ -17,6 +17,9 @@ mod layout;
 // How many words the results of opening and feeding are.
 const TEST: usize = 3;
 
+// Which of them is a refusal's number: 0 where nothing is refused.
+const NUMBER: usize = 0;
+
 // Whether memory of these lengths has room for a session and for the results of opening and feeding.
 fn roomy(words: usize, bytes: usize, told: usize) -> bool
     ensures { result ≡ (leb session_words words && (leb session_bytes bytes && leb test_size told)) }
@@ -63,9 +66,9 @@ pub extern "C" fn rillmoth_open(
         losses,
     };
     let opened = session::open(&rules);
-    let test = opened.test;
-    lent::put(&of_test(test), told, 0);
-    if test.is_err() {
+    let results = of_test(opened.test);
+    lent::put(&results, told, 0);
+    if results[NUMBER] != 0 {
         return true;
     }
     layout::put_words(words, &opened.session);

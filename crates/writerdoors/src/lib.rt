@@ -17,7 +17,7 @@ use table::{Rules, Told};
 const WRITE: usize = 4;
 
 // The number, both places, and how many bytes the file has.
-fn of_write(writing: Result<usize, Refusal>) -> [u64; WRITE]
+fn of_write(writing: Result<usize, Refusal>) -> [u64; 4]
     ensures { result ≡ write_results writing }
 {
     let told = Told::of(writing);
@@ -42,7 +42,7 @@ fn answered<F: FnOnce(&mut [u8]) -> Result<usize, Refusal>>(
         return false;
     }
     let results = of_write(work(out));
-    told[..WRITE].copy_from_slice(&results);
+    lent::put(&results, told, 0);
     true
 }
 

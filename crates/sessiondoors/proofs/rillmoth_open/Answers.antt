@@ -1,6 +1,6 @@
 -- `rillmoth_open` meets its contract. Assumes nothing.
 use Rattle.sessiondoors.proofs.Flags.{opened_small}
-use Rattle.sessiondoors.proofs.Answers.{room, opens_by, refuses_by}
+use Rattle.sessiondoors.proofs.Answers.{room, told_passed, told_refused, opens_by, refuses_by}
 use mathlib.Core.Path.{sym, ◌∙◌}
 use Rattle.sessiondoors.specs.Doors as doors
 use Rattle.sessiondoors.proofs.rillmoth_open.Goals as goal
@@ -8,10 +8,10 @@ use Rattle.sessiondoors.proofs.rillmoth_open.Goals as goal
 pub returns-then-not-roomy : goal.returns-then-not-roomy
 returns-then-not-roomy c = doors.short (sym c.roomy.ensures ∙ c.if-not-roomy.true)
 
-pub returns-then-is_err : goal.returns-then-is_err
-returns-then-is_err c =
+pub returns-then-results-ne0 : goal.returns-then-results-ne0
+returns-then-results-ne0 c =
     let enough = sym c.roomy.ensures ∙ c.if-not-roomy.false in
-    refuses_by c.open-opened.result enough c.open-opened.ensures (sym c.is_err.ensures.value ∙ c.if-is_err.true) c.of_test.ensures c.put.ensures
+    refuses_by c.open-opened.result enough c.open-opened.ensures (told_refused _ c.of_test-results.ensures c.if-results-ne0.true) c.of_test-results.ensures c.put.ensures
 
 pub put_words-requires : goal.put_words-requires
 put_words-requires c =
@@ -31,8 +31,8 @@ returns c =
     c.open-opened.result
     enough
     c.open-opened.ensures
-    (sym c.is_err.ensures.value ∙ c.if-is_err.false)
+    (told_passed _ c.of_test-results.ensures c.if-results-ne0.false)
     c.put_words.ensures
     c.put_bytes.ensures
-    c.of_test.ensures
+    c.of_test-results.ensures
     c.put.ensures

@@ -2,6 +2,7 @@
 use mathlib.Core.Path.{refl}
 use borrow.Author.Tests.{lt-leb, le-leb}
 use Rattle.writerdoors.specs.Results as doors
+use Rattle.writerdoors.proofs.Answers.{writes_by}
 use Rattle.writerdoors.proofs.answered.Goals as goal
 
 pub returns-then-told-lt-WRITE : goal.returns-then-told-lt-WRITE
@@ -9,6 +10,5 @@ returns-then-told-lt-WRITE g c = doors.short (lt-leb _ _ c.if-told-lt-WRITE.true
 
 pub returns : goal.returns
 returns g c =
-    rw (c.copy_from_slice.ensures.after, c.of_write-results.ensures)
-    (doors.writes {w = c.work.result} (le-leb _ _ c.if-told-lt-WRITE.false)
-    (record { shown = _; shows = refl; left = _; met = c.work.ensures; leaves = refl }))
+    writes_by _ c.work.result (le-leb _ _ c.if-told-lt-WRITE.false)
+    (record { shown = _; shows = refl; left = _; met = c.work.ensures; leaves = refl }) c.of_write-results.ensures c.put.ensures
