@@ -7,7 +7,7 @@ use std::io;
 
 // The session after one event. A refusal is shown.
 fn after(rt: &impl Print, s: &mut Session, byte: u8) -> io::Result<()> {
-    print::outcome(rt, feed::feed(s, byte), "")
+    print::outcome(rt, feed::advance(s, byte), "")
 }
 
 // The numbers of the line from a place on, one after another.
